@@ -4,7 +4,7 @@ use crate::state::Node;
 ghost use mathlib.Core.Path.{_≡_};
 ghost use Rattle.headers.specs.Rules.{refused, accepted};
 ghost use Rattle.node.specs.Rules.{outcome, done};
-ghost use Rattle.node.specs.Answers.{refusalAs, outcomeAs};
+ghost use Rattle.node.specs.Answers.{refusalAs, answerAs, isRefused, outcomeAs};
 
 // The refusals 1 to 9, in the order of their numbers. A node alone gives those that need no segment.
 pub enum Refusal {
@@ -29,6 +29,18 @@ pub enum Answer {
 pub struct Outcome {
     pub answer: Answer,
     pub node: Node,
+}
+
+impl Answer {
+    pub fn is_refused(self) -> bool
+        ensures { λ r. ⌜ r ≡ isRefused (answerAs self) ⌝ }
+    {
+        match self {
+            Answer::Accepted => false,
+            Answer::Sent(_) => false,
+            Answer::Refused(_) => true,
+        }
+    }
 }
 
 impl Node {
