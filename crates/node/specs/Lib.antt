@@ -1,6 +1,8 @@
 pub mod Rules
 pub mod Answers
+pub mod Given
 pub mod Sound
-pub mod Stand
 pub mod Laws
+pub mod Stand
+pub mod Events
 pub mod Examples

@@ -1,0 +1,14 @@
+pub mod Rules
+pub mod Words
+pub mod Parts
+pub mod Laws
+pub mod Chain
+pub mod Young
+pub mod Capped
+pub mod Runs
+pub mod Done
+pub mod Bus
+pub mod Views
+pub mod Nodes
+pub mod Single
+pub mod Lists
