@@ -54,8 +54,8 @@ pub fn send(table: &mut [u64; WORDS], index: usize) -> Answer
                 return Answer::Refused(Refusal::InboxFull);
             }
             broadcast::cast(&mut *table, index, f);
-            let m = o.node;
-            change::becomes(&mut *table, index, n, m);
+            let after = o.node;
+            change::becomes(&mut *table, index, n, after);
             a
         }
     }

@@ -15,10 +15,10 @@ use Rattle.table.proofs.store.is_off_at.Reads as is-off-at-reads
 use Rattle.table.proofs.store.push.Reads as push-reads
 
 abbrev Inv-loop : tie.InvT-loop
-Inv-loop t₀ from f k₀ t k = (k ≤ places) × (Held t₀ → Each (broadcast from f) t₀ k t)
+Inv-loop t₀ from f to₀ t to = (to ≤ places) × (Held t₀ → Each (broadcast from f) t₀ to t)
 
 abbrev μ-loop : tie.MeasureT-loop
-μ-loop t₀ from f k₀ t k = places - k
+μ-loop t₀ from f to₀ t to = places - to
 
 loop-holds : tie.Need-loop-holds Inv-loop μ-loop
 loop-holds c = (omega arith, λ h. each-none _ _ h)
@@ -29,8 +29,8 @@ is-off-at-requires c κs = omega arith
 push-requires : tie.Need-push-requires Inv-loop μ-loop
 push-requires c κs = omega arith
 
-add-k : tie.Need-add-k Inv-loop μ-loop
-add-k c = omega arith
+add-to : tie.Need-add-to Inv-loop μ-loop
+add-to c = omega arith
 
 loop-less : tie.Need-loop-less Inv-loop μ-loop
 loop-less c = omega arith
@@ -53,7 +53,7 @@ loop-again c = (
 
 returns : tie.Need-returns Inv-loop μ-loop
 returns c = λ h.
-    let e : c .before .loop .k ≡ places = omega arith in
+    let e : c .before .loop .to ≡ places = omega arith in
     subst (λ (k : ℕ). Each (broadcast (c .before .before .args .from) (c .before .before .args .f)) (c .before .before .args .t .now) k (c .before .loop .t)) e (c .before .loop .inv .1 h)
 
 pub cast-spec : {M : Type 1} → statement M
@@ -65,7 +65,7 @@ cast-spec =
     loop-holds
     is-off-at-requires
     push-requires
-    add-k
+    add-to
     loop-less
     loop-again
     returns)
