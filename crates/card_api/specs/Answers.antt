@@ -1,0 +1,38 @@
+-- An answer as a number for C, and what each operation promises of it: what the command that it calls promises.
+use mathlib.Core.Path.{_≡_}
+use mathlib.Core.Bool.{Bool, true, false}
+use mathlib.Core.List.{List, [], _∷_}
+use Prim.Native.Nat.{ℕ}
+use Rattle.node.specs.Answers.{refusalAs}
+use Rattle.node.specs.declared.answer.Answer.{Answer}
+use Rattle.node.specs.declared.answer.Answer.the-variants.{Accepted, Sent, Refused}
+use Rattle.table.specs.Rules.{Command}
+use Rattle.table.specs.Done.{Does}
+
+-- 0 where accepted, else the refusal's number.
+abbrev pub codeOf : Answer → ℕ
+codeOf Accepted = 0
+codeOf (Sent f) = 0
+codeOf (Refused r) = refusalAs r
+
+abbrev pub lateCode : Bool → ℕ
+lateCode true = 1
+lateCode false = 0
+
+-- The command has an answer, r is its number, and the words are as the command promises.
+pub record Coded (c : Command) (t : List ℕ) (r : ℕ) (t′ : List ℕ) : Type 0 where
+  pub answer : Answer
+  pub code : r ≡ codeOf answer
+  pub does : Does c t answer t′
+
+-- Three words for the frame that left: its header, its length and its data; as they were where none did.
+abbrev pub SentWords : Answer → List ℕ → List ℕ → Type 0
+SentWords Accepted ws ws′ = ws′ ≡ ws
+SentWords (Sent f) ws ws′ = ws′ ≡ f .header ∷ f .len ∷ f .bytes ∷ []
+SentWords (Refused r) ws ws′ = ws′ ≡ ws
+
+pub record CodedSend (c : Command) (t : List ℕ) (r : ℕ) (t′ ws ws′ : List ℕ) : Type 0 where
+  pub answer : Answer
+  pub code : r ≡ codeOf answer
+  pub does : Does c t answer t′
+  pub frame : SentWords answer ws ws′

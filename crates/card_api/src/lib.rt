@@ -1,0 +1,158 @@
+// The table's commands for C: the same operations over a plain pointer to its words, answers as numbers.
+use node::answer::Answer;
+use node::answer::Refusal;
+use node::frame::Frame;
+use table::layout::WORDS;
+ghost use mathlib.Core.Path.{_≡_};
+ghost use Rattle.node.specs.Answers.{refusalAs};
+ghost use Rattle.table.specs.Rules.{powerOn, send, fail, deliver, tick, foreign, message, enquiry, release};
+ghost use Rattle.table.specs.Words.{Fresh, lateOf};
+ghost use Rattle.card_api.specs.Answers.{codeOf, lateCode, Coded, SentWords, CodedSend};
+
+fn number(r: Refusal) -> u64
+    ensures { λ n. ⌜ n ≡ refusalAs r ⌝ }
+{
+    match r {
+        Refusal::BadIndex => 1,
+        Refusal::Off => 2,
+        Refusal::BadNodeId => 3,
+        Refusal::NothingDue => 4,
+        Refusal::InboxFull => 5,
+        Refusal::InboxEmpty => 6,
+        Refusal::NotPermitted => 7,
+        Refusal::HostWaiting => 8,
+        Refusal::Malformed => 9,
+    }
+}
+
+// 0 where accepted, else the refusal's number.
+fn code(a: Answer) -> u64
+    ensures { λ r. ⌜ r ≡ codeOf a ⌝ }
+{
+    match a {
+        Answer::Accepted => 0,
+        Answer::Sent(_) => 0,
+        Answer::Refused(r) => number(r),
+    }
+}
+
+#[no_mangle]
+pub extern "C" fn card_new(table: &mut [u64; WORDS])
+    ensures { λ _. ⌜ Fresh (now (table .exit)) ⌝ }
+{
+    table::commands::new(&mut *table);
+}
+
+#[no_mangle]
+pub extern "C" fn card_is_late(table: &[u64; WORDS]) -> u64
+    ensures { λ r. ⌜ r ≡ lateCode (lateOf (now (table .entry))) ⌝ }
+{
+    if table::commands::is_late(table) {
+        return 1;
+    }
+    0
+}
+
+#[no_mangle]
+pub extern "C" fn card_power_on(table: &mut [u64; WORDS], index: usize, id: u64) -> u64
+    ensures { λ r. ⌜ Coded (powerOn index id) (now (table .entry)) r (now (table .exit)) ⌝ }
+{
+    let a = table::commands::power_on(&mut *table, index, id);
+    code(a)
+}
+
+// Writes the frame that left, if one did: header, length, data with the first byte highest.
+#[no_mangle]
+pub extern "C" fn card_send(table: &mut [u64; WORDS], index: usize, sent: &mut [u64; 3]) -> u64
+    ensures { λ r. ⌜ CodedSend (send index) (now (table .entry)) r (now (table .exit)) (now (sent .entry)) (now (sent .exit)) ⌝ }
+{
+    let a = table::commands::send(&mut *table, index);
+    write_sent(&mut *sent, a);
+    code(a)
+}
+
+fn write_sent(sent: &mut [u64; 3], a: Answer)
+    ensures { λ _. ⌜ SentWords a (now (sent .entry)) (now (sent .exit)) ⌝ }
+{
+    match a {
+        Answer::Accepted => {}
+        Answer::Refused(_) => {}
+        Answer::Sent(f) => {
+            *sent = [f.header as u64, f.len as u64, f.bytes];
+        }
+    }
+}
+
+#[no_mangle]
+pub extern "C" fn card_fail(table: &mut [u64; WORDS], index: usize) -> u64
+    ensures { λ r. ⌜ Coded (fail index) (now (table .entry)) r (now (table .exit)) ⌝ }
+{
+    let a = table::commands::fail(&mut *table, index);
+    code(a)
+}
+
+#[no_mangle]
+pub extern "C" fn card_deliver(table: &mut [u64; WORDS], index: usize) -> u64
+    ensures { λ r. ⌜ Coded (deliver index) (now (table .entry)) r (now (table .exit)) ⌝ }
+{
+    let a = table::commands::deliver(&mut *table, index);
+    code(a)
+}
+
+#[no_mangle]
+pub extern "C" fn card_tick(table: &mut [u64; WORDS]) -> u64
+    ensures { λ r. ⌜ Coded tick (now (table .entry)) r (now (table .exit)) ⌝ }
+{
+    let a = table::commands::tick(&mut *table);
+    code(a)
+}
+
+#[no_mangle]
+pub extern "C" fn card_foreign(
+    table: &mut [u64; WORDS],
+    kind: u8,
+    header: u32,
+    len: u8,
+    bytes: u64,
+) -> u64
+    ensures { λ r. ⌜ Coded (foreign (record { kind = kind; header = header; len = len; bytes = bytes })) (now (table .entry)) r (now (table .exit)) ⌝ }
+{
+    let f = Frame {
+        kind: kind,
+        header: header,
+        len: len,
+        bytes: bytes,
+    };
+    let a = table::commands::foreign(&mut *table, f);
+    code(a)
+}
+
+#[no_mangle]
+pub extern "C" fn card_message(
+    table: &mut [u64; WORDS],
+    index: usize,
+    field: u16,
+    len: u8,
+    bytes: u64,
+) -> u64
+    ensures { λ r. ⌜ Coded (message index field len bytes) (now (table .entry)) r (now (table .exit)) ⌝ }
+{
+    let a = table::commands::message(&mut *table, index, field, len, bytes);
+    code(a)
+}
+
+#[no_mangle]
+pub extern "C" fn card_enquiry(table: &mut [u64; WORDS], index: usize, len: u8, id: u64) -> u64
+    ensures { λ r. ⌜ Coded (enquiry index len id) (now (table .entry)) r (now (table .exit)) ⌝ }
+{
+    let a = table::commands::enquiry(&mut *table, index, len, id);
+    code(a)
+}
+
+#[no_mangle]
+pub extern "C" fn card_release(table: &mut [u64; WORDS], index: usize) -> u64
+    ensures { λ r. ⌜ Coded (release index) (now (table .entry)) r (now (table .exit)) ⌝ }
+{
+    let a = table::commands::release(&mut *table, index);
+    code(a)
+}
