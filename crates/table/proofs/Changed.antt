@@ -10,7 +10,8 @@ use Rattle.table.specs.declared.ages.Timed.{Timed}
 use Rattle.table.specs.Rules.{limit, Place, place, timedOf, agesOn, after, timedOld}
 use Rattle.table.specs.Words.{nodeAt, inbox, ageOf, placeAt, Held, At}
 use Rattle.table.specs.Parts.{SettledBy, Aged, tickAgeBy, tickedPlace, TickedAt}
-use Rattle.table.specs.Chain.{place-eq, at-held, at-then}
+use Rattle.table.specs.Chain.{at-held, at-then}
+use Rattle.table.specs.Laws.{place-eq}
 
 pub becomes-at : (t t′ : List ℕ) (k : ℕ) (n m : Node) (was is : Timed) (age g : ℕ) → n ≡ nodeAt t k → was ≡ timedOf n → is ≡ timedOf m
     → age ≡ ageOf t k → g ≡ agesOn was is age → At t k (place m (inbox t k) g) t′ → At t k (after (placeAt t k) m (inbox t k)) t′

@@ -23,8 +23,8 @@ use Rattle.table.specs.declared.ages.Timed.the-variants.{Untimed, Reply,
 use Rattle.table.specs.Rules.{places, limit, Item, item, Place, place, Places, blank, at, timedOf, after, deliver, send, tick, foreign, hasRoom, allRoom, roomBut, isEmpty, thenRoom, indexed, answer, joins, deliveredAt, older, tickAge, placeTick, sendBy, carry, oldPlace, old}
 use Rattle.table.specs.Words.{nodeAt, inbox, ageOf, placeAt, lateOf, row, view, Held, At, Latched}
 use Rattle.table.specs.Parts.{Taken, pushed, agedBy, aged, Each, broadcast, tickAgeBy, tickedPlace, TickedAt}
-use Rattle.table.specs.Laws.{at-same, at-map, joins-blank, tick-blank}
-use Rattle.table.specs.Chain.{lt-or-le, eq-or-ne, place-eq, length-view, view-at, at-held, at-late, at-then, at-other as at-beside}
+use Rattle.table.specs.Laws.{place-eq, at-same, at-map, joins-blank, tick-blank}
+use Rattle.table.specs.Chain.{lt-or-le, eq-or-ne, length-view, view-at, at-held, at-late, at-then, at-other as at-beside}
 use Rattle.table.specs.Capped.{capAge, capItem, capPlace, cap, old-cap}
 use Rattle.table.specs.Done.{Sound, Done}
 use Rattle.table.proofs.Rounds.{each-none, each-more, room-all, room-but, no-room, no-room-but}

@@ -17,8 +17,8 @@ use Rattle.table.specs.declared.ages.Timed.the-variants.{Untimed, Reply,
 use Rattle.table.specs.Rules.{places, limit, Item, Place, place, Places, blank, at, timedOf, agesOn, after, Command, indexed, answer, change, carry, stepBy, old}
 use Rattle.table.specs.Words.{nodeAt, inbox, ageOf, placeAt, lateOf, view, Held, At}
 use Rattle.table.specs.Parts.{SettledBy, Settled, Reset}
-use Rattle.table.specs.Laws.{at-same, length-carry}
-use Rattle.table.specs.Chain.{eq-or-ne, place-eq, length-view, view-at, view-is, at-held, at-late, at-other as at-beside}
+use Rattle.table.specs.Laws.{place-eq, at-same, length-carry}
+use Rattle.table.specs.Chain.{eq-or-ne, length-view, view-at, view-is, at-held, at-late, at-other as at-beside}
 use Rattle.table.specs.Capped.{capAge, capItem, capPlace, cap, cap-place, at-cap}
 use Rattle.table.specs.Young.{isTick}
 use Rattle.table.specs.Done.{Sound, sound-of, reaches, Done}

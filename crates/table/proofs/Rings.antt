@@ -31,7 +31,8 @@ use Rattle.table.specs.Words.{
   At,
 }
 use Rattle.table.specs.Parts.{Taken, pushed, aged, agedWord, Aged}
-use Rattle.table.specs.Chain.{lt-or-le, place-eq, item-ext, items-ext, node-ext, at-none}
+use Rattle.table.specs.Chain.{lt-or-le, item-ext, items-ext, node-ext, at-none}
+use Rattle.table.specs.Laws.{place-eq}
 use Rattle.table.proofs.Packed.{aged-item}
 
 -- how long an inbox is

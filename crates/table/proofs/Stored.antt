@@ -32,7 +32,8 @@ use Rattle.table.specs.Words.{
   Fresh,
   Latched,
 }
-use Rattle.table.specs.Chain.{place-eq, place-ext, node-ext, inbox-ext, view-is}
+use Rattle.table.specs.Chain.{place-ext, node-ext, inbox-ext, view-is}
+use Rattle.table.specs.Laws.{place-eq}
 use Rattle.table.proofs.Rings.{inbox-none}
 
 -- the node comes back from its five words

@@ -10,7 +10,8 @@ use lib.Dec.{ltb, eqb}
 use borrow.Author.Tests.{ltb-true, ltb-false, eqb-true, eqb-false}
 use lib.ListN.{length, getD, set, length-set, getD-replicate}
 use lib.Seq.{ext-getD, getD-set-same, getD-set-other}
-use Rattle.table.specs.Rules.{places, Place, place, Places, blank, at}
+use Rattle.table.specs.Rules.{places, Place, Places, blank, at}
+use Rattle.table.specs.Laws.{place-eq}
 use Rattle.table.specs.Words.{
   block,
   countAt,
@@ -46,9 +47,6 @@ eq-or-ne a b = go (eqb a b) refl
     go : (t : Bool) → eqb a b ≡ t → (a ≡ b) ⊎ (a ≢ b)
     go true e = inl (eqb-true a b e)
     go false e = inr (eqb-false a b e)
-
-pub place-eq : {p q : Place} → p .node ≡ q .node → p .inbox ≡ q .inbox → p .age ≡ q .age → p ≡ q
-place-eq a b c = λ i. place (a i) (b i) (c i)
 
 -- THE VIEW is the places, in order
 

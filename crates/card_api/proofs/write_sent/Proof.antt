@@ -2,8 +2,6 @@ use mathlib.Core.Path.{refl}
 use borrow.Author.Needs.{needs}
 use Rattle.card_api.proofs.write_sent.Statement.{statement}
 use Rattle.card_api.proofs.write_sent.Tie as tie
-use Rattle.card_api.proofs.write_sent.Reads as reads
-use Rattle.card_api.proofs.write_sent.Lts as lts
 
 enum-told : tie.Need-enum-told
 enum-told c = search needs

@@ -6,11 +6,6 @@ use native.Mathlib.Omega.{arith}
 use Prim.Native.Nat.{_≤_, _-_}
 use Rattle.table.proofs.commands.tick.Statement.{statement}
 use Rattle.table.proofs.commands.tick.Tie as tie
-use Rattle.table.proofs.commands.tick.Reads as reads
-use Rattle.table.proofs.commands.tick.Lts as lts
-use Rattle.table.proofs.change.tick_place.Reads as tick-place-reads
-use Rattle.table.proofs.store.either.Reads as either-reads
-use Rattle.table.proofs.store.set_late.Reads as set-late-reads
 
 abbrev Inv-loop : tie.InvT-loop
 Inv-loop table₀ late₀ k₀ table late k = (k ≤ places) × (Held table₀ → Ticking table₀ k table late)
