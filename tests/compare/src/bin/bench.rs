@@ -1,0 +1,112 @@
+//! The same scripts through the proved library and through the other implementation, in one process: median ratios.
+
+use compare::Proved;
+use reference::generate::draft::Draft;
+use reference::generate::prng::Prng;
+use reference::generate::walker::{walk, Temper};
+use std::hint::black_box;
+use std::time::{Duration, Instant};
+
+const REPEATS: usize = 15;
+
+fn main() {
+    let rows: [(&str, Vec<u8>); 4] = [
+        ("ticks, 24 idle nodes", idle_ticks(60_000)),
+        ("breaker start of 24", breaker_start(40)),
+        ("full inboxes", full_inboxes(400)),
+        ("hostile traffic", hostile(1, 40_000)),
+    ];
+    println!("{:<22} {:>10} {:>10} {:>12} {:>12} {:>6}", "script", "bytes", "commands", "proved", "plain Rust", "ratio");
+    for (name, script) in &rows {
+        let (proved, plain) = measure(script);
+        let commands = count_lines(script);
+        let ratio = proved.as_secs_f64() / plain.as_secs_f64();
+        println!("{name:<22} {:>10} {commands:>10} {:>12} {:>12} {ratio:>6.2}", script.len(), millis(proved), millis(plain));
+    }
+    println!();
+    println!("{:<22} {:>12} {:>12} {:>12}", "hostile, by length", "bytes", "proved", "ns a byte");
+    for commands in [10_000, 20_000, 40_000, 80_000, 160_000] {
+        let script = hostile(2, commands);
+        let (proved, _) = measure(&script);
+        let each = proved.as_nanos() as f64 / script.len() as f64;
+        println!("{:<22} {:>12} {:>12} {each:>12.1}", "", script.len(), millis(proved));
+    }
+}
+
+/// The median time of each side, taken in turn.
+fn measure(script: &[u8]) -> (Duration, Duration) {
+    let mut proved = Proved::default();
+    let mut plain = Vec::new();
+    reference::run(script, &mut plain);
+    assert_eq!(proved.run(script), plain, "both sides must agree");
+    let (mut first, mut second) = (Vec::new(), Vec::new());
+    for _ in 0..REPEATS {
+        let start = Instant::now();
+        black_box(proved.run(black_box(script)));
+        first.push(start.elapsed());
+        plain.clear();
+        let start = Instant::now();
+        reference::run(black_box(script), &mut plain);
+        black_box(&plain);
+        second.push(start.elapsed());
+    }
+    (median(first), median(second))
+}
+
+fn median(mut times: Vec<Duration>) -> Duration {
+    times.sort();
+    times[times.len() / 2]
+}
+
+fn millis(time: Duration) -> String {
+    format!("{:.3} ms", time.as_secs_f64() * 1e3)
+}
+
+fn count_lines(script: &[u8]) -> usize {
+    let mut out = Vec::new();
+    reference::run(script, &mut out);
+    out.iter().filter(|&&byte| byte == b'\n').count() - 1
+}
+
+fn ids(first: u64) -> Vec<u64> {
+    (0..24).map(|k| first + k).collect()
+}
+
+fn idle_ticks(ticks: usize) -> Vec<u8> {
+    let mut draft = Draft::permitted(&ids(0x0501_0101_0100));
+    draft.ticks(ticks);
+    draft.bytes
+}
+
+/// All 24 switched on together, again and again, each time to Permitted.
+fn breaker_start(times: u64) -> Vec<u8> {
+    let mut bytes = Vec::new();
+    for time in 0..times {
+        bytes.extend(Draft::permitted(&ids(0x0501_0101_0100 + 97 * time)).bytes);
+    }
+    bytes
+}
+
+/// Inboxes of 32 frames that age, then all are delivered.
+fn full_inboxes(times: usize) -> Vec<u8> {
+    let mut draft = Draft::permitted(&ids(0x0501_0101_0100));
+    for _ in 0..times {
+        for _ in 0..32 {
+            draft.idle_frame();
+        }
+        draft.ticks(3).drain_all();
+    }
+    draft.bytes
+}
+
+/// Foreign frames aimed at the nodes, with everything else in between.
+fn hostile(seed: u64, commands: usize) -> Vec<u8> {
+    let mut rng = Prng::new(seed);
+    let mut temper = Temper::random(&mut rng, commands);
+    temper.nodes = 24;
+    temper.node_ids = ids(0x0501_0101_0100);
+    temper.kept = false;
+    temper.tick_run = 5;
+    temper.weights = [3, 30, 3, 40, 20, 30, 10, 3];
+    walk(&mut rng, temper)
+}

@@ -1,0 +1,46 @@
+//! The proved library behind a safe function, and what the comparison and the benchmark share.
+
+use reference::{claim_holds, Command, Segment};
+
+extern "C" {
+    /// crates/script_api: the whole output of a script, and how many bytes of it the buffer now holds.
+    fn script_run(script: *const u8, script_len: usize, out: *mut u8, out_len: usize) -> usize;
+}
+
+/// More than the longest line of a command and its share of the last word, for each byte of a script.
+const LINE_MOST: usize = 64;
+
+/// The proved library with a buffer that it writes into.
+#[derive(Default)]
+pub struct Proved {
+    buffer: Vec<u8>,
+}
+
+impl Proved {
+    /// The whole output of a script.
+    pub fn run(&mut self, script: &[u8]) -> &[u8] {
+        let room = LINE_MOST * (script.len() + 1);
+        if self.buffer.len() < room {
+            self.buffer.resize(room, 0);
+        }
+        // The function is proved to return, to write within the buffer and to answer at most its length.
+        let written = unsafe {
+            script_run(script.as_ptr(), script.len(), self.buffer.as_mut_ptr(), self.buffer.len())
+        };
+        &self.buffer[..written]
+    }
+}
+
+/// Whether the claim holds on the other implementation after every command, while the list is kept.
+pub fn claim_held(script: &[u8]) -> bool {
+    let mut segment = Segment::new();
+    let mut rest = script;
+    while let Ok((command, after)) = Command::read(rest) {
+        let _ = segment.carry_out(&command);
+        if !segment.is_late() && !claim_holds(&segment) {
+            return false;
+        }
+        rest = after;
+    }
+    true
+}
