@@ -1,0 +1,117 @@
+//! The nine commands, read from and written to the bytes of a script.
+
+use crate::frame::Frame;
+use crate::refusal::Refusal;
+
+/// Accepted, for a send with the frame that left, or refused.
+pub type Answer = Result<Option<Frame>, Refusal>;
+
+#[derive(Clone, Copy, Debug, PartialEq, Eq)]
+pub enum Command {
+    PowerOn { index: u8, id: u64 },
+    Send { index: u8 },
+    FailedSend { index: u8 },
+    Deliver { index: u8 },
+    Tick,
+    Foreign { frame: Frame },
+    Message { index: u8, field: u16, len: u8, data: [u8; 8] },
+    Enquiry { index: u8, len: u8, id: [u8; 6] },
+    Release { index: u8 },
+}
+
+/// How many operand bytes each of the commands 01 to 09 has.
+pub const OPERANDS: [usize; 9] = [7, 1, 1, 1, 0, 14, 12, 8, 1];
+
+impl Command {
+    /// Reads the first command and gives the rest after it; 10 unknown, 11 cut short.
+    #[inline]
+    pub fn read(script: &[u8]) -> Result<(Command, &[u8]), Refusal> {
+        let (&byte, rest) = script.split_first().ok_or(Refusal::CutShort)?;
+        match byte {
+            0x01 => operands(rest, Self::power_on),
+            0x02 => operands(rest, |[index]| Command::Send { index }),
+            0x03 => operands(rest, |[index]| Command::FailedSend { index }),
+            0x04 => operands(rest, |[index]| Command::Deliver { index }),
+            0x05 => Ok((Command::Tick, rest)),
+            0x06 => operands(rest, Self::foreign),
+            0x07 => operands(rest, Self::message),
+            0x08 => operands(rest, Self::enquiry),
+            0x09 => operands(rest, |[index]| Command::Release { index }),
+            _ => Err(Refusal::UnknownCommand),
+        }
+    }
+
+    fn power_on([index, a, b, c, d, e, f]: [u8; 7]) -> Command {
+        Command::PowerOn { index, id: u64::from_be_bytes([0, 0, a, b, c, d, e, f]) }
+    }
+
+    fn foreign([kind, a, b, c, d, len, data @ ..]: [u8; 14]) -> Command {
+        let header = u32::from_be_bytes([a, b, c, d]);
+        Command::Foreign { frame: Frame { header, kind, len, data } }
+    }
+
+    fn message([index, a, b, len, data @ ..]: [u8; 12]) -> Command {
+        Command::Message { index, field: u16::from_be_bytes([a, b]), len, data }
+    }
+
+    fn enquiry([index, len, id @ ..]: [u8; 8]) -> Command {
+        Command::Enquiry { index, len, id }
+    }
+
+    /// The byte that names the command.
+    pub fn byte(&self) -> u8 {
+        match self {
+            Command::PowerOn { .. } => 0x01,
+            Command::Send { .. } => 0x02,
+            Command::FailedSend { .. } => 0x03,
+            Command::Deliver { .. } => 0x04,
+            Command::Tick => 0x05,
+            Command::Foreign { .. } => 0x06,
+            Command::Message { .. } => 0x07,
+            Command::Enquiry { .. } => 0x08,
+            Command::Release { .. } => 0x09,
+        }
+    }
+
+    /// Writes the command's bytes at the end of a script.
+    pub fn write(&self, script: &mut Vec<u8>) {
+        script.push(self.byte());
+        match *self {
+            Command::Tick => {}
+            Command::Send { index }
+            | Command::FailedSend { index }
+            | Command::Deliver { index }
+            | Command::Release { index } => script.push(index),
+            Command::PowerOn { index, id } => {
+                script.push(index);
+                script.extend_from_slice(&id.to_be_bytes()[2..]);
+            }
+            Command::Foreign { frame } => {
+                script.push(frame.kind);
+                script.extend_from_slice(&frame.header.to_be_bytes());
+                script.push(frame.len);
+                script.extend_from_slice(&frame.data);
+            }
+            Command::Message { index, field, len, data } => {
+                script.push(index);
+                script.extend_from_slice(&field.to_be_bytes());
+                script.push(len);
+                script.extend_from_slice(&data);
+            }
+            Command::Enquiry { index, len, id } => {
+                script.extend_from_slice(&[index, len]);
+                script.extend_from_slice(&id);
+            }
+        }
+    }
+}
+
+/// Splits off N operand bytes; 11 if there are fewer.
+#[inline]
+fn operands<const N: usize>(
+    rest: &[u8],
+    command: impl FnOnce([u8; N]) -> Command,
+) -> Result<(Command, &[u8]), Refusal> {
+    let (bytes, rest) = rest.split_first_chunk::<N>().ok_or(Refusal::CutShort)?;
+    Ok((command(*bytes), rest))
+}

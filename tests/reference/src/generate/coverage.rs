@@ -1,0 +1,369 @@
+//! Coverage: every state of a node against every event, counted over scripts.
+//!
+//! A cell counts only when the script's output shows what the event did: the node sends
+//! afterwards, and nothing else has changed it in between.
+
+use std::collections::{BTreeMap, BTreeSet};
+
+use crate::command::{Answer, Command};
+use crate::frame::Frame;
+use crate::generate::cases::Case;
+use crate::generate::marks::{Mark, Marks};
+use crate::header::{self, RESERVED_BIT};
+use crate::node::{Node, Phase, State};
+use crate::segment::Segment;
+
+/// A node's state as far as it decides what an event does.
+#[derive(Clone, Copy, Debug, PartialEq, Eq, PartialOrd, Ord)]
+pub enum Row {
+    Off,
+    Check(u8),
+    Wait,
+    Reserve,
+    Reserved { reply: bool },
+    Permitted { reply: bool, amd: bool, report: bool, host: bool },
+    Leaving { released: bool },
+    Resting,
+    Silent,
+}
+
+impl Row {
+    pub fn of(node: &Node) -> Row {
+        let waiting = node.waiting();
+        match node.phase() {
+            Phase::Off => Row::Off,
+            Phase::Check(number) => Row::Check(number),
+            Phase::Wait(_) => Row::Wait,
+            Phase::Reserve => Row::Reserve,
+            Phase::Reserved => Row::Reserved { reply: waiting.reply },
+            Phase::Permitted => Row::Permitted {
+                reply: waiting.reply,
+                amd: waiting.amd,
+                report: waiting.report,
+                host: waiting.host.is_some(),
+            },
+            Phase::Leaving { released } => Row::Leaving { released },
+            Phase::Resting => Row::Resting,
+            Phase::Silent => Row::Silent,
+        }
+    }
+
+    pub fn all() -> Vec<Row> {
+        let mut rows = vec![Row::Off, Row::Wait, Row::Reserve, Row::Resting, Row::Silent];
+        rows.extend((4..=7).map(Row::Check));
+        rows.extend([false, true].map(|reply| Row::Reserved { reply }));
+        rows.extend([false, true].map(|released| Row::Leaving { released }));
+        rows.extend((0..16).map(|bits| Row::Permitted {
+            reply: bits & 1 != 0,
+            amd: bits & 2 != 0,
+            report: bits & 4 != 0,
+            host: bits & 8 != 0,
+        }));
+        rows.sort();
+        rows
+    }
+
+    fn has_due(self) -> bool {
+        match self {
+            Row::Check(_) | Row::Reserve | Row::Reserved { .. } | Row::Leaving { .. } => true,
+            Row::Permitted { reply, amd, report, host } => reply || amd || report || host,
+            Row::Off | Row::Wait | Row::Resting | Row::Silent => false,
+        }
+    }
+}
+
+/// What happens to a node.
+#[derive(Clone, Copy, Debug, PartialEq, Eq, PartialOrd, Ord)]
+pub enum Event {
+    /// A command at its index, by the command's byte, with its refusal or 0. A tick too.
+    Answer(u8, u8),
+    /// An enquiry that is accepted, for all or for a Node ID.
+    EnquiryTaken {
+        all: bool,
+    },
+    /// A frame of this case is delivered.
+    Deliver(Case),
+    /// The same with bit 28 at 0: own alias and CID, own alias and other, AME or AMD to heed.
+    DeliverBit28Clear(Heed),
+    /// An AME or AMD to heed that has alias 0.
+    DeliverAliasZero(Heed),
+    /// Another node's frame, or a foreign one, joins its inbox, or passes by if it is Off.
+    BusFrame,
+    ForeignFrame,
+}
+
+#[derive(Clone, Copy, Debug, PartialEq, Eq, PartialOrd, Ord)]
+pub enum Heed {
+    OwnCid,
+    OwnOther,
+    Ame,
+    Amd,
+}
+
+/// Each refusal that a command at an index can give; 0 is accepted. 1 is no node's.
+pub const ANSWERS: [(u8, &[u8]); 8] = [
+    (1, &[0, 3]),
+    (2, &[0, 2, 4, 5]),
+    (3, &[0, 2, 4]),
+    (4, &[2, 6]),
+    (5, &[0]),
+    (7, &[0, 2, 7, 8, 9]),
+    (8, &[2, 7, 8, 9]),
+    (9, &[0, 2, 7]),
+];
+
+impl Event {
+    pub fn all() -> Vec<Event> {
+        let mut events = vec![Event::BusFrame, Event::ForeignFrame];
+        for (byte, refusals) in ANSWERS {
+            events.extend(refusals.iter().map(|&refusal| Event::Answer(byte, refusal)));
+        }
+        events.extend([true, false].map(|all| Event::EnquiryTaken { all }));
+        events.extend(Case::ALL.map(Event::Deliver));
+        let heeds = [Heed::OwnCid, Heed::OwnOther, Heed::Ame, Heed::Amd];
+        events.extend(heeds.map(Event::DeliverBit28Clear));
+        events.extend([Heed::Ame, Heed::Amd].map(Event::DeliverAliasZero));
+        events.sort();
+        events
+    }
+
+    /// All events that one delivered frame is.
+    pub fn of_delivery(frame: &Frame, node: &Node) -> Vec<Event> {
+        let case = Case::of(frame, node);
+        let mut events = vec![Event::Deliver(case)];
+        let Some(heed) = Heed::of(case) else { return events };
+        if frame.header & RESERVED_BIT == 0 {
+            events.push(Event::DeliverBit28Clear(heed));
+        }
+        let alias_zero = header::split(frame.header).alias.0 == 0;
+        if alias_zero && matches!(heed, Heed::Ame | Heed::Amd) {
+            events.push(Event::DeliverAliasZero(heed));
+        }
+        events
+    }
+}
+
+impl Heed {
+    pub fn of(case: Case) -> Option<Heed> {
+        match case {
+            Case::OwnCid | Case::OwnCid3To1 | Case::OwnCidWithData => Some(Heed::OwnCid),
+            Case::AmeEmpty | Case::AmeOwnId => Some(Heed::Ame),
+            Case::AmdOwnId => Some(Heed::Amd),
+            _ if case >= Case::OwnRid && case <= Case::OwnMessageHigh => Some(Heed::OwnOther),
+            _ => None,
+        }
+    }
+}
+
+/// Why a cell cannot be reached, or none if it can.
+pub fn impossible(row: Row, event: Event) -> Option<&'static str> {
+    let reason = |holds: bool, why: &'static str| holds.then_some(why);
+    let permitted = matches!(row, Row::Permitted { .. });
+    let host = matches!(row, Row::Permitted { host: true, .. });
+    match (row, event) {
+        (_, Event::BusFrame | Event::ForeignFrame | Event::Answer(5, 0)) => None,
+        (_, Event::Answer(1, _)) => None,
+        (Row::Off, Event::Answer(_, 2)) => None,
+        (Row::Off, _) => Some("Off answers every command but power-on and tick by 2"),
+        (_, Event::Answer(_, 2)) => Some("2 is Off's alone, and no node turns Off"),
+        (_, Event::Answer(2 | 3, 4)) => reason(row.has_due(), "a frame is due, so not 4"),
+        (_, Event::Answer(2 | 3, _)) => reason(!row.has_due(), "nothing is due: 4 comes first"),
+        (_, Event::Answer(7 | 8, 7)) => reason(permitted, "Permitted is not refused by 7"),
+        (_, Event::Answer(7 | 8, 8)) => reason(!host, "no host frame waits"),
+        (_, Event::Answer(7, 0) | Event::EnquiryTaken { .. }) => {
+            reason(!permitted || host, "host frames are taken in Permitted, one at a time")
+        }
+        (_, Event::Answer(9, 7)) => reason(permitted, "Permitted is not refused by 7"),
+        (_, Event::Answer(9, _)) => reason(!permitted, "only Permitted can be released"),
+        _ => None,
+    }
+}
+
+/// How often each cell was shown and each mark was met.
+#[derive(Clone, Default)]
+pub struct Coverage {
+    pub cells: BTreeMap<(Row, Event), u64>,
+    pub marks: Marks,
+    /// All cells met, shown or not.
+    met: BTreeSet<(Row, Event)>,
+    /// For each place, the cells that its next sends will show.
+    pending: [BTreeSet<(Row, Event)>; Segment::PLACES],
+}
+
+/// What a command meets, taken before it is carried out.
+struct Before {
+    rows: [Row; Segment::PLACES],
+    node: Option<Node>,
+    front: Option<Frame>,
+}
+
+impl Before {
+    fn of(segment: &Segment, command: &Command) -> Before {
+        let place = index_of(command).filter(|&place| place < Segment::PLACES);
+        Before {
+            rows: std::array::from_fn(|place| Row::of(segment.node(place))),
+            node: place.map(|place| *segment.node(place)),
+            front: place.and_then(|place| segment.inbox(place).next()).map(|(frame, _)| *frame),
+        }
+    }
+}
+
+/// The index that a command names.
+pub fn index_of(command: &Command) -> Option<usize> {
+    match *command {
+        Command::PowerOn { index, .. }
+        | Command::Send { index }
+        | Command::FailedSend { index }
+        | Command::Deliver { index }
+        | Command::Message { index, .. }
+        | Command::Enquiry { index, .. }
+        | Command::Release { index } => Some(usize::from(index)),
+        Command::Tick | Command::Foreign { .. } => None,
+    }
+}
+
+impl Coverage {
+    pub fn new() -> Coverage {
+        Coverage::default()
+    }
+
+    /// Counts a whole script, read as the program reads it.
+    pub fn count_script(&mut self, script: &[u8]) {
+        let mut segment = Segment::new();
+        let mut rest = script;
+        while !rest.is_empty() {
+            match Command::read(rest) {
+                Ok((command, after)) => {
+                    rest = after;
+                    let _ = self.carry_out(&mut segment, &command);
+                }
+                Err(refusal) => {
+                    let first = rest.len() == script.len();
+                    self.marks.count_stop(rest, first, segment.is_late(), refusal);
+                    rest = &[];
+                }
+            }
+        }
+        self.end_script(&segment);
+    }
+
+    /// After a script's last command: what was not shown is lost.
+    pub fn end_script(&mut self, segment: &Segment) {
+        self.marks.count_end(segment);
+        self.pending = Default::default();
+    }
+
+    /// Carries out a command and counts what it was.
+    pub fn carry_out(&mut self, segment: &mut Segment, command: &Command) -> Answer {
+        let before = Before::of(segment, command);
+        self.marks.count_before(segment, command);
+        let answer = segment.carry_out(command);
+        self.marks.count_after(segment, command, &answer);
+        let refusal = answer.as_ref().map_or_else(|refusal| refusal.number(), |_| 0);
+        self.show_earlier(&before, segment, command, refusal);
+        for (place, event) in events(&before, command, refusal) {
+            self.meet(place, (before.rows[place], event));
+        }
+        answer
+    }
+
+    /// A send shows what went before at its node; any other change there hides it.
+    fn show_earlier(&mut self, before: &Before, after: &Segment, command: &Command, refusal: u8) {
+        let (Some(place), Some(node)) = (index_of(command), &before.node) else { return };
+        let waits = matches!(node.phase(), Phase::Wait(_));
+        match (command, refusal) {
+            (Command::Send { .. }, 0) if node.state() == State::Testing => self.show(place),
+            (Command::Send { .. }, 4) if !waits => self.show(place),
+            (Command::Send { .. }, _) => {}
+            _ if after.node(place) != node => self.pending[place].clear(),
+            _ => {}
+        }
+    }
+
+    /// Whether some node's next sends will show this cell.
+    pub fn is_pending(&self, cell: &(Row, Event)) -> bool {
+        self.pending.iter().any(|cells| cells.contains(cell))
+    }
+
+    /// Whether this node's next sends will show a cell that is missing.
+    pub fn will_show(&self, place: usize) -> bool {
+        self.pending[place].iter().any(|cell| !self.cells.contains_key(cell))
+    }
+
+    fn show(&mut self, place: usize) {
+        for cell in std::mem::take(&mut self.pending[place]) {
+            *self.cells.entry(cell).or_default() += 1;
+        }
+    }
+
+    /// A cell shows itself at once, or waits for the node's next sends.
+    fn meet(&mut self, place: usize, cell: (Row, Event)) {
+        self.met.insert(cell);
+        let at_once = match cell {
+            (_, Event::Answer(2, 4 | 5)) => true,
+            (Row::Off, event) => event != Event::Answer(1, 0),
+            _ => false,
+        };
+        if at_once {
+            *self.cells.entry(cell).or_default() += 1;
+        } else {
+            self.pending[place].insert(cell);
+        }
+    }
+
+    /// The cells that can be reached and were not.
+    pub fn missing_cells(&self) -> Vec<(Row, Event)> {
+        let cells = Row::all()
+            .into_iter()
+            .flat_map(|row| Event::all().into_iter().map(move |event| (row, event)));
+        cells
+            .filter(|&(row, event)| impossible(row, event).is_none())
+            .filter(|cell| !self.cells.contains_key(cell))
+            .collect()
+    }
+
+    /// The cells that were met though they are listed as impossible, or not listed at all.
+    pub fn unexpected_cells(&self) -> Vec<(Row, Event)> {
+        let (rows, events) = (Row::all(), Event::all());
+        let listed = |row: &Row, event: &Event| rows.contains(row) && events.contains(event);
+        let cells = self.met.iter().copied();
+        cells
+            .filter(|(row, event)| !listed(row, event) || impossible(*row, *event).is_some())
+            .collect()
+    }
+
+    pub fn missing_marks(&self) -> Vec<Mark> {
+        Mark::all().into_iter().filter(|mark| !self.marks.met(mark)).collect()
+    }
+
+    pub fn complete(&self) -> bool {
+        self.missing_cells().is_empty() && self.missing_marks().is_empty()
+    }
+}
+
+/// What a command was, for each node that it concerns.
+fn events(before: &Before, command: &Command, refusal: u8) -> Vec<(usize, Event)> {
+    let everywhere = |event| (0..Segment::PLACES).map(move |place| (place, event));
+    let mut events = Vec::new();
+    match (command, refusal) {
+        (Command::Tick, _) => return everywhere(Event::Answer(5, 0)).collect(),
+        (Command::Foreign { .. }, 0) => return everywhere(Event::ForeignFrame).collect(),
+        (Command::Foreign { .. }, _) | (_, 1) => return events,
+        _ => {}
+    }
+    let place = index_of(command).expect("all other commands name an index");
+    match *command {
+        Command::Deliver { .. } if refusal == 0 => {
+            let (node, frame) = (before.node.expect("a node"), before.front.expect("a frame"));
+            events.extend(Event::of_delivery(&frame, &node).into_iter().map(|e| (place, e)));
+        }
+        Command::Enquiry { len, .. } if refusal == 0 => {
+            events.push((place, Event::EnquiryTaken { all: len == 0 }));
+        }
+        _ => events.push((place, Event::Answer(command.byte(), refusal))),
+    }
+    if matches!(command, Command::Send { .. }) && refusal == 0 {
+        events.extend(everywhere(Event::BusFrame).filter(|&(other, _)| other != place));
+    }
+    events
+}

@@ -1,0 +1,12 @@
+//! Scripts made from a seed, the coverage they reach, and the stored corpora.
+
+pub mod cases;
+pub mod corpus;
+pub mod coverage;
+pub mod draft;
+pub mod filler;
+pub mod map_corpus;
+pub mod marks;
+pub mod prng;
+pub mod scenarios;
+pub mod walker;

@@ -1,0 +1,280 @@
+//! Random scripts, guided by the segment they make: kept ones and late ones.
+
+use crate::alias::{Alias, MAX_48};
+use crate::command::Command;
+use crate::frame::Frame;
+use crate::generate::cases::Case;
+use crate::generate::draft::Draft;
+use crate::generate::prng::Prng;
+use crate::inbox::Inbox;
+use crate::node::{Node, State};
+use crate::segment::{claim_holds, Segment};
+
+/// How a script goes about it.
+#[derive(Clone, Debug)]
+pub struct Temper {
+    /// Indexes that are switched on, from 0 up.
+    pub nodes: usize,
+    pub node_ids: Vec<u64>,
+    /// Whether every age is ended at 40 at the latest.
+    pub kept: bool,
+    /// About how many commands, and the longest run of ticks at once.
+    pub commands: usize,
+    pub tick_run: usize,
+    /// Weights: power-on, send, failed send, deliver, ticks, foreign, host order, oddity.
+    pub weights: [usize; 8],
+}
+
+impl Temper {
+    /// A temper by chance, for about so many commands.
+    pub fn random(rng: &mut Prng, commands: usize) -> Temper {
+        let nodes = rng.pick(&[2, 2, 3, 4, 6, 8, 24]);
+        let weights = match rng.below(6) {
+            4 => [1, 40, 0, 60, 25, 1, 3, 0],
+            5 => [1, 40, 1, 20, 25, 3, 3, 1],
+            0 => [3, 40, 1, 60, 20, 8, 6, 1],
+            1 => [3, 30, 3, 30, 20, 30, 10, 3],
+            2 => [1, 40, 1, 12, 30, 12, 10, 1],
+            _ => [8, 30, 8, 40, 20, 15, 15, 5],
+        };
+        Temper {
+            nodes,
+            node_ids: node_ids(rng, nodes),
+            kept: rng.percent(75),
+            commands,
+            tick_run: rng.pick(&[1, 5, 40, 41, 60]),
+            weights,
+        }
+    }
+}
+
+/// Node IDs that are near, equal, or share their first alias.
+fn node_ids(rng: &mut Prng, count: usize) -> Vec<u64> {
+    let base = 1 + rng.number() % 0xFFFF_0000_0000;
+    let sort = rng.below(5);
+    (0..count as u64)
+        .map(|k| match sort {
+            0 => base,
+            1 => base + k,
+            2 => base + 4095 * k,
+            3 => base + 4095 * (k / 2) + k % 2,
+            _ => 1 + rng.number() % 0xFFFF_FFFF_FFFF,
+        })
+        .collect()
+}
+
+/// A Node ID near this one, whose first alias is the given one.
+fn contender(id: u64, alias: Alias) -> u64 {
+    let low = id.clamp(4095, MAX_48 - 4095);
+    low - low % 4095 + u64::from(alias.0) - 1
+}
+
+pub struct Walker<'a> {
+    pub draft: Draft,
+    rng: &'a mut Prng,
+    temper: Temper,
+    commands: usize,
+    /// Whether the claim held after every command, in a list kept so far.
+    pub claim_held: bool,
+    /// The most nodes that used an alias at once while the list was kept.
+    pub most_users: usize,
+    /// Whether one node tested an alias that another used, while the list was kept.
+    pub contested: bool,
+}
+
+/// A script of this temper.
+pub fn walk(rng: &mut Prng, temper: Temper) -> Vec<u8> {
+    let mut walker = Walker::new(rng, temper);
+    walker.run();
+    walker.draft.bytes
+}
+
+impl<'a> Walker<'a> {
+    pub fn new(rng: &'a mut Prng, temper: Temper) -> Walker<'a> {
+        Walker {
+            draft: Draft::new(),
+            rng,
+            temper,
+            commands: 0,
+            claim_held: true,
+            most_users: 0,
+            contested: false,
+        }
+    }
+
+    pub fn run(&mut self) {
+        for index in 0..self.temper.nodes as u8 {
+            if self.rng.percent(70) {
+                self.power_on(index);
+            }
+        }
+        while self.commands < self.temper.commands {
+            self.step();
+        }
+    }
+
+    fn push(&mut self, command: Command) {
+        self.draft.push(command);
+        self.commands += 1;
+        if !self.draft.segment.is_late() {
+            self.claim_held &= claim_holds(&self.draft.segment);
+            self.watch_users();
+        }
+    }
+
+    fn watch_users(&mut self) {
+        let nodes = || (0..Segment::PLACES).map(|place| self.draft.segment.node(place));
+        let users: Vec<Alias> = nodes().filter_map(Node::used_alias).collect();
+        let contested = nodes().filter_map(Node::tested_alias).any(|alias| users.contains(&alias));
+        self.most_users = self.most_users.max(users.len());
+        self.contested |= contested;
+    }
+
+    fn step(&mut self) {
+        let index = self.rng.below(self.temper.nodes) as u8;
+        match self.rng.weighted(&self.temper.weights.clone()) {
+            0 => self.newcomer(index),
+            1 => self.send_some(index),
+            2 => self.push(Command::FailedSend { index }),
+            3 => self.deliver_some(index),
+            4 => self.ticks(),
+            5 => self.foreign(index),
+            6 => self.host_order(index),
+            _ => self.oddity(index),
+        }
+    }
+
+    /// Switches on a node that is Off, or sometimes one that is not.
+    fn newcomer(&mut self, index: u8) {
+        let off = self.seek(index, |i| self.draft.state(i) == State::Off);
+        if self.draft.state(off) == State::Off || self.rng.percent(30) {
+            self.power_on(off);
+        }
+    }
+
+    fn power_on(&mut self, index: u8) {
+        let mut id = self.temper.node_ids[usize::from(index) % self.temper.node_ids.len()];
+        let used = (0..Segment::PLACES).filter_map(|p| self.draft.segment.node(p).used_alias());
+        let used: Vec<Alias> = used.collect();
+        if !used.is_empty() && self.rng.percent(60) {
+            id = contender(id, self.rng.pick(&used));
+        }
+        self.push(Command::PowerOn { index, id });
+    }
+
+    /// The first index from here on of which this is true, or the one itself.
+    fn seek(&self, from: u8, good: impl Fn(u8) -> bool) -> u8 {
+        let count = self.temper.nodes as u8;
+        let around = (0..count).map(|k| (from + k) % count);
+        around.into_iter().find(|&index| good(index)).unwrap_or(from)
+    }
+
+    fn send_some(&mut self, index: u8) {
+        let index = self.seek(index, |i| self.draft.has_due(i));
+        if self.temper.kept && self.rng.percent(90) {
+            self.make_room();
+        }
+        self.push(Command::Send { index });
+    }
+
+    fn deliver_some(&mut self, index: u8) {
+        let index = self.seek(index, |i| self.draft.segment.inbox_len(usize::from(i)) > 0);
+        for _ in 0..self.rng.pick(&[1, 1, 2, 4, 32]) {
+            if self.draft.segment.inbox_len(usize::from(index)) > 0 || self.rng.percent(3) {
+                self.push(Command::Deliver { index });
+            }
+        }
+    }
+
+    fn ticks(&mut self) {
+        for _ in 0..self.rng.between(1, self.temper.tick_run) {
+            if self.temper.kept {
+                self.end_old_ages();
+            }
+            self.push(Command::Tick);
+        }
+    }
+
+    /// Delivers one frame from every full inbox.
+    fn make_room(&mut self) {
+        for index in self.draft.on() {
+            if self.draft.segment.inbox_len(usize::from(index)) == Inbox::ROOM {
+                self.push(Command::Deliver { index });
+            }
+        }
+    }
+
+    /// Ends every age that the next tick would bring to 41.
+    fn end_old_ages(&mut self) {
+        for index in self.draft.on() {
+            while self.draft.segment.inbox_age(usize::from(index)) == Some(Segment::LATENESS) {
+                self.push(Command::Deliver { index });
+            }
+        }
+        for index in self.draft.on() {
+            if self.draft.segment.owed_age(usize::from(index)) == Some(Segment::LATENESS) {
+                self.make_room();
+                self.push(Command::Send { index });
+            }
+        }
+    }
+
+    /// A frame aimed at a node, or at another than the one whose state decides its case.
+    fn foreign(&mut self, index: u8) {
+        if self.temper.kept {
+            self.make_room();
+        }
+        let case = self.rng.pick(&Case::ALL);
+        let mut frame = case.frame(self.draft.segment.node(usize::from(index)), self.rng);
+        if self.rng.percent(6) {
+            frame = self.spoil(frame);
+        }
+        self.push(Command::Foreign { frame });
+    }
+
+    /// Makes a frame malformed, or at least unusual.
+    fn spoil(&mut self, mut frame: Frame) -> Frame {
+        match self.rng.below(5) {
+            0 => frame.kind = self.rng.pick(&[1, 2, 3, 4, 255]),
+            1 => frame.len = self.rng.pick(&[8, 9, 16, 255]),
+            2 => frame.header |= 1 << self.rng.between(29, 31),
+            3 => frame.data = self.rng.number().to_be_bytes(),
+            _ => frame.header ^= 1 << self.rng.below(29),
+        }
+        frame
+    }
+
+    fn host_order(&mut self, index: u8) {
+        let index = self.seek(index, |i| self.draft.state(i) == State::Permitted);
+        let data = self.rng.number().to_be_bytes();
+        match self.rng.below(12) {
+            0 => self.push(Command::Release { index }),
+            1..=6 => {
+                let field = self.rng.below(0x8100) as u16;
+                let len = self.rng.below(10) as u8;
+                self.push(Command::Message { index, field, len, data });
+            }
+            _ => {
+                let len = self.rng.pick(&[0, 0, 6, 6, 6, 5, 7]);
+                let other = self.draft.segment.node(self.rng.below(self.temper.nodes));
+                let id = self.rng.pick(&[other.id(), other.id(), 0, 1]);
+                let [_, _, id @ ..] = id.to_be_bytes();
+                self.push(Command::Enquiry { index, len, id });
+            }
+        }
+    }
+
+    /// Commands that are refused, mostly.
+    fn oddity(&mut self, index: u8) {
+        let high = self.rng.pick(&[24, 25, 128, 255, index, index]);
+        match self.rng.below(7) {
+            0 => self.push(Command::PowerOn { index: high, id: 0 }),
+            1 => self.push(Command::Send { index: high }),
+            2 => self.push(Command::FailedSend { index: high }),
+            3 => self.push(Command::Deliver { index: high }),
+            4 => self.push(Command::Message { index: high, field: 0x8000, len: 9, data: [0; 8] }),
+            5 => self.push(Command::Enquiry { index: high, len: 1, id: [0; 6] }),
+            _ => self.push(Command::Release { index: high }),
+        }
+    }
+}

@@ -1,0 +1,23 @@
+//! Another implementation of document 01, without proofs: the peer for tests and for speed.
+
+pub mod alias;
+pub mod command;
+pub mod frame;
+pub mod header;
+pub mod inbox;
+pub mod map;
+pub mod node;
+pub mod refusal;
+pub mod script;
+pub mod segment;
+
+pub mod generate;
+
+pub use alias::{first_alias, next_alias, Alias};
+pub use command::{Answer, Command};
+pub use frame::Frame;
+pub use map::AliasMap;
+pub use node::{Node, State};
+pub use refusal::Refusal;
+pub use script::{run, run_program};
+pub use segment::{claim_holds, Segment, View};

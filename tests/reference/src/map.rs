@@ -1,0 +1,97 @@
+//! The map of foreign aliases: 64 entries, alias with Node ID, oldest first.
+
+use crate::alias::Alias;
+use crate::frame::{Frame, EXTENDED};
+use crate::header::{self, Kind};
+use crate::refusal::Refusal;
+
+#[derive(Clone, Copy, Debug, PartialEq, Eq)]
+pub struct Entry {
+    pub alias: Alias,
+    pub id: u64,
+}
+
+#[derive(Clone, Debug)]
+pub struct AliasMap {
+    entries: [Entry; AliasMap::ROOM],
+    len: usize,
+}
+
+impl Default for AliasMap {
+    fn default() -> Self {
+        Self::new()
+    }
+}
+
+impl AliasMap {
+    pub const ROOM: usize = 64;
+
+    pub const fn new() -> AliasMap {
+        AliasMap { entries: [Entry { alias: Alias(0), id: 0 }; Self::ROOM], len: 0 }
+    }
+
+    /// The entries, oldest first.
+    pub fn entries(&self) -> &[Entry] {
+        &self.entries[..self.len]
+    }
+
+    /// Notes a frame; 9 if it is malformed, 12 if it would be the 65th entry.
+    pub fn note(&mut self, frame: &Frame) -> Result<(), Refusal> {
+        let frame = frame.checked()?;
+        if frame.kind != EXTENDED {
+            return Ok(());
+        }
+        let header = header::split(frame.header);
+        match header.kind() {
+            Kind::Amd if frame.len == 6 => self.define(header.alias, node_id(&frame)),
+            Kind::Amr => {
+                self.remove(|entry| entry.alias == header.alias);
+                Ok(())
+            }
+            _ => Ok(()),
+        }
+    }
+
+    fn define(&mut self, alias: Alias, id: u64) -> Result<(), Refusal> {
+        if alias.0 == 0 || id == 0 {
+            return Ok(());
+        }
+        let replaced = |entry: &Entry| entry.alias == alias || entry.id == id;
+        if self.len == Self::ROOM && !self.entries().iter().any(replaced) {
+            return Err(Refusal::MapFull);
+        }
+        self.remove(replaced);
+        self.entries[self.len] = Entry { alias, id };
+        self.len += 1;
+        Ok(())
+    }
+
+    fn remove(&mut self, gone: impl Fn(&Entry) -> bool) {
+        let mut kept = 0;
+        for place in 0..self.len {
+            let entry = self.entries[place];
+            if !gone(&entry) {
+                self.entries[kept] = entry;
+                kept += 1;
+            }
+        }
+        self.len = kept;
+    }
+
+    /// The Node ID of an alias; 13 if absent.
+    pub fn node_id_of(&self, alias: Alias) -> Result<u64, Refusal> {
+        let hit = self.entries().iter().find(|entry| entry.alias == alias);
+        hit.map(|entry| entry.id).ok_or(Refusal::Absent)
+    }
+
+    /// The alias of a Node ID; 13 if absent.
+    pub fn alias_of(&self, id: u64) -> Result<Alias, Refusal> {
+        let hit = self.entries().iter().find(|entry| entry.id == id);
+        hit.map(|entry| entry.alias).ok_or(Refusal::Absent)
+    }
+}
+
+/// The first six data bytes as a Node ID.
+fn node_id(frame: &Frame) -> u64 {
+    u64::from_be_bytes(frame.data) >> 16
+}

@@ -1,0 +1,342 @@
+//! One node's link layer: its state, its due frame and its events.
+
+use crate::alias::{self, Alias};
+use crate::frame::{Frame, EXTENDED};
+use crate::header::{self, Kind, Section, AMD, AME, AMR, FIELD_MAX, RID};
+use crate::refusal::Refusal;
+
+/// The states that document 01 names.
+#[derive(Clone, Copy, Debug, PartialEq, Eq, PartialOrd, Ord)]
+pub enum State {
+    Off,
+    Testing,
+    Reserved,
+    Permitted,
+    Leaving,
+    Resting,
+    Silent,
+}
+
+/// A state with what belongs to it alone. Check, Wait and Reserve are Testing.
+#[derive(Clone, Copy, Debug, PartialEq, Eq)]
+pub enum Phase {
+    Off,
+    /// This CID is due.
+    Check(u8),
+    /// CID 4 left so many ticks ago.
+    Wait(u8),
+    /// The reserving RID is due.
+    Reserve,
+    Reserved,
+    Permitted,
+    Leaving {
+        released: bool,
+    },
+    Resting,
+    Silent,
+}
+
+/// What waits to leave, one of each sort at most.
+#[derive(Clone, Copy, Debug, PartialEq, Eq)]
+pub struct Waiting {
+    pub reply: bool,
+    pub amd: bool,
+    pub report: bool,
+    pub host: Option<Frame>,
+}
+
+impl Waiting {
+    pub const NOTHING: Waiting = Waiting { reply: false, amd: false, report: false, host: None };
+}
+
+/// What must leave in time: a reply RID or an AMR.
+#[derive(Clone, Copy, Debug, PartialEq, Eq)]
+pub enum Owed {
+    Nothing,
+    Reply,
+    Amr,
+}
+
+/// The duplicate report's field and data, as 002 prints them.
+const REPORT_FIELD: u16 = 0x15B4;
+const REPORT_DATA: [u8; 7] = [0x01, 0x01, 0x00, 0x00, 0x00, 0x02, 0x01];
+
+#[derive(Clone, Copy, Debug, PartialEq, Eq)]
+pub struct Node {
+    phase: Phase,
+    alias: Alias,
+    id: u64,
+    generator: u64,
+    waiting: Waiting,
+}
+
+impl Node {
+    /// Ticks from CID 4 to the reserving RID.
+    pub const WAIT: u8 = 201;
+
+    pub const OFF: Node =
+        Node { phase: Phase::Off, alias: Alias(0), id: 0, generator: 0, waiting: Waiting::NOTHING };
+
+    /// A node as power-on leaves it; 3 for Node ID 0 or above 48 bits.
+    pub fn power_on(id: u64) -> Result<Node, Refusal> {
+        let alias = alias::first_alias(id)?;
+        let phase = Phase::Check(7);
+        Ok(Node { phase, alias, id, generator: id, waiting: Waiting::NOTHING })
+    }
+
+    pub fn state(&self) -> State {
+        match self.phase {
+            Phase::Off => State::Off,
+            Phase::Check(_) | Phase::Wait(_) | Phase::Reserve => State::Testing,
+            Phase::Reserved => State::Reserved,
+            Phase::Permitted => State::Permitted,
+            Phase::Leaving { .. } => State::Leaving,
+            Phase::Resting => State::Resting,
+            Phase::Silent => State::Silent,
+        }
+    }
+
+    pub fn phase(&self) -> Phase {
+        self.phase
+    }
+
+    pub fn waiting(&self) -> &Waiting {
+        &self.waiting
+    }
+
+    pub fn id(&self) -> u64 {
+        self.id
+    }
+
+    /// The alias last taken, in any state. 0 in Off.
+    pub fn alias(&self) -> Alias {
+        self.alias
+    }
+
+    pub fn is_off(&self) -> bool {
+        self.phase == Phase::Off
+    }
+
+    /// The alias in Testing.
+    pub fn tested_alias(&self) -> Option<Alias> {
+        (self.state() == State::Testing).then_some(self.alias)
+    }
+
+    /// The alias that the node uses: in Reserved, Permitted and Leaving.
+    pub fn used_alias(&self) -> Option<Alias> {
+        match self.phase {
+            Phase::Reserved | Phase::Permitted | Phase::Leaving { .. } => Some(self.alias),
+            _ => None,
+        }
+    }
+
+    pub fn owed(&self) -> Owed {
+        match self.phase {
+            Phase::Leaving { .. } => Owed::Amr,
+            _ if self.waiting.reply => Owed::Reply,
+            _ => Owed::Nothing,
+        }
+    }
+
+    /// The frame that leaves next.
+    pub fn due(&self) -> Option<Frame> {
+        match self.phase {
+            Phase::Check(number) => Some(self.cid(number)),
+            Phase::Reserve => Some(self.control(RID)),
+            Phase::Reserved if self.waiting.reply => Some(self.control(RID)),
+            Phase::Reserved => Some(self.with_own_id(AMD)),
+            Phase::Permitted => self.first_waiting(),
+            Phase::Leaving { .. } => Some(self.with_own_id(AMR)),
+            Phase::Off | Phase::Wait(_) | Phase::Resting | Phase::Silent => None,
+        }
+    }
+
+    fn first_waiting(&self) -> Option<Frame> {
+        if self.waiting.reply {
+            Some(self.control(RID))
+        } else if self.waiting.amd {
+            Some(self.with_own_id(AMD))
+        } else if self.waiting.report {
+            let header = header::join(true, REPORT_FIELD, self.alias);
+            Some(Frame::extended(header, &REPORT_DATA))
+        } else {
+            self.waiting.host
+        }
+    }
+
+    fn cid(&self, number: u8) -> Frame {
+        let section = Section((self.id >> (12 * (number - 4))) as u16 & 0x0FFF);
+        self.control(header::cid_field(number, section))
+    }
+
+    fn control(&self, field: u16) -> Frame {
+        Frame { header: header::join(false, field, self.alias), ..Frame::EMPTY }
+    }
+
+    fn with_own_id(&self, field: u16) -> Frame {
+        Frame::with_node_id(header::join(false, field, self.alias), self.id)
+    }
+
+    /// The due frame leaves; 2, 4.
+    pub fn leaves(&mut self) -> Result<Frame, Refusal> {
+        let frame = self.due_or_refusal()?;
+        self.left();
+        Ok(frame)
+    }
+
+    /// The due frame's sending fails; 2, 4.
+    pub fn fails(&mut self) -> Result<(), Refusal> {
+        self.due_or_refusal()?;
+        if self.state() == State::Testing {
+            self.restart();
+        }
+        Ok(())
+    }
+
+    #[inline]
+    pub(crate) fn due_or_refusal(&self) -> Result<Frame, Refusal> {
+        if self.is_off() {
+            return Err(Refusal::Off);
+        }
+        self.due().ok_or(Refusal::NothingDue)
+    }
+
+    /// What the due frame's leaving makes of the node.
+    pub(crate) fn left(&mut self) {
+        match self.phase {
+            Phase::Check(4) => self.phase = Phase::Wait(0),
+            Phase::Check(number) => self.phase = Phase::Check(number - 1),
+            Phase::Reserve => self.phase = Phase::Reserved,
+            Phase::Reserved if self.waiting.reply => self.waiting.reply = false,
+            Phase::Reserved => self.phase = Phase::Permitted,
+            Phase::Permitted => self.left_permitted(),
+            Phase::Leaving { released: true } => self.phase = Phase::Resting,
+            Phase::Leaving { released: false } => self.restart(),
+            Phase::Off | Phase::Wait(_) | Phase::Resting | Phase::Silent => {}
+        }
+    }
+
+    fn left_permitted(&mut self) {
+        if self.waiting.reply {
+            self.waiting.reply = false;
+        } else if self.waiting.amd {
+            self.waiting.amd = false;
+        } else if self.waiting.report {
+            self.phase = Phase::Silent;
+            self.waiting = Waiting::NOTHING;
+        } else {
+            self.waiting.host = None;
+        }
+    }
+
+    fn restart(&mut self) {
+        (self.alias, self.generator) = alias::next(self.generator);
+        self.phase = Phase::Check(7);
+        self.waiting = Waiting::NOTHING;
+    }
+
+    fn leave(&mut self, released: bool) {
+        self.phase = Phase::Leaving { released };
+        self.waiting = Waiting::NOTHING;
+    }
+
+    /// A frame is delivered; 2, then 9 as for a foreign frame.
+    pub fn receives(&mut self, frame: &Frame) -> Result<(), Refusal> {
+        if self.is_off() {
+            return Err(Refusal::Off);
+        }
+        let frame = frame.checked()?;
+        self.hear(&frame);
+        Ok(())
+    }
+
+    /// What a well-formed frame makes of a node that is not Off.
+    pub(crate) fn hear(&mut self, frame: &Frame) {
+        if frame.kind != EXTENDED {
+            return;
+        }
+        let header = header::split(frame.header);
+        if header.alias == self.alias {
+            self.hear_own_alias(header.kind());
+        } else if self.phase == Phase::Permitted {
+            self.hear_other_alias(header.kind(), frame);
+        }
+    }
+
+    fn hear_own_alias(&mut self, kind: Kind) {
+        let cid = matches!(kind, Kind::Cid(..));
+        match self.phase {
+            Phase::Check(_) | Phase::Wait(_) | Phase::Reserve => self.restart(),
+            Phase::Reserved | Phase::Permitted if cid => self.waiting.reply = true,
+            Phase::Reserved => self.restart(),
+            Phase::Permitted => self.leave(false),
+            Phase::Off | Phase::Leaving { .. } | Phase::Resting | Phase::Silent => {}
+        }
+    }
+
+    fn hear_other_alias(&mut self, kind: Kind, frame: &Frame) {
+        match kind {
+            Kind::Ame if frame.len == 0 || frame.carries(self.id) => self.waiting.amd = true,
+            Kind::Amd if frame.carries(self.id) => self.waiting.report = true,
+            _ => {}
+        }
+    }
+
+    /// One tick passes; never refused.
+    #[inline]
+    pub fn tick(&mut self) {
+        if let Phase::Wait(ticks) = self.phase {
+            let ticks = ticks + 1;
+            self.phase = if ticks == Self::WAIT { Phase::Reserve } else { Phase::Wait(ticks) };
+        }
+    }
+
+    /// The host orders a message; 2, 9, 7, 8.
+    pub fn message(&mut self, field: u16, len: u8, data: [u8; 8]) -> Result<(), Refusal> {
+        self.order_host_frame(field <= FIELD_MAX && len <= 8, true, field, len, data)
+    }
+
+    /// The host orders an enquiry, for all or for one Node ID; 2, 9, 7, 8.
+    pub fn enquiry(&mut self, len: u8, id: [u8; 6]) -> Result<(), Refusal> {
+        let mut data = [0; 8];
+        data[..6].copy_from_slice(&id);
+        self.order_host_frame(len == 0 || len == 6, false, AME, len, data)
+    }
+
+    fn order_host_frame(
+        &mut self,
+        fits: bool,
+        message: bool,
+        field: u16,
+        len: u8,
+        data: [u8; 8],
+    ) -> Result<(), Refusal> {
+        if self.is_off() {
+            return Err(Refusal::Off);
+        }
+        if !fits {
+            return Err(Refusal::Malformed);
+        }
+        if self.phase != Phase::Permitted {
+            return Err(Refusal::NotPermitted);
+        }
+        if self.waiting.host.is_some() {
+            return Err(Refusal::HostFrameWaits);
+        }
+        let header = header::join(message, field, self.alias);
+        self.waiting.host = Some(Frame { header, kind: EXTENDED, len, data }.checked()?);
+        Ok(())
+    }
+
+    /// The host gives up the alias; 2, 7.
+    pub fn release(&mut self) -> Result<(), Refusal> {
+        match self.phase {
+            Phase::Off => Err(Refusal::Off),
+            Phase::Permitted => {
+                self.leave(true);
+                Ok(())
+            }
+            _ => Err(Refusal::NotPermitted),
+        }
+    }
+}

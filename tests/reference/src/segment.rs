@@ -1,0 +1,261 @@
+//! The segment: 24 nodes with inboxes, ages, the late latch and the nine commands.
+
+use crate::alias::Alias;
+use crate::command::{Answer, Command};
+use crate::frame::Frame;
+use crate::inbox::Inbox;
+use crate::node::{Node, Owed, State};
+use crate::refusal::Refusal;
+
+/// Ages are kept as the tick since which they run, so that a tick touches no inbox frame.
+pub struct Segment {
+    nodes: [Node; Segment::PLACES],
+    /// Since when each node has owed its reply RID or AMR.
+    owed_since: [u64; Segment::PLACES],
+    /// One bit for each place: not Off, and inbox full.
+    on: u32,
+    full: u32,
+    now: u64,
+    late: bool,
+    inboxes: [Inbox; Segment::PLACES],
+}
+
+/// What can be seen of a node after a list.
+#[derive(Clone, Debug, PartialEq, Eq)]
+pub struct View {
+    pub state: State,
+    pub tested_alias: Option<Alias>,
+    pub used_alias: Option<Alias>,
+    pub due: Option<Frame>,
+    pub inbox: Vec<Frame>,
+}
+
+impl Default for Segment {
+    fn default() -> Self {
+        Self::new()
+    }
+}
+
+impl Segment {
+    pub const PLACES: usize = 24;
+    /// The greatest age in a kept list.
+    pub const LATENESS: u64 = 40;
+
+    /// All nodes Off.
+    pub const fn new() -> Segment {
+        Segment {
+            nodes: [Node::OFF; Self::PLACES],
+            owed_since: [0; Self::PLACES],
+            on: 0,
+            full: 0,
+            now: 0,
+            late: false,
+            inboxes: [Inbox::EMPTY; Self::PLACES],
+        }
+    }
+
+    /// Carries out one command.
+    #[inline]
+    pub fn carry_out(&mut self, command: &Command) -> Answer {
+        match *command {
+            Command::PowerOn { index, id } => self.power_on(index, id)?,
+            Command::Send { index } => return self.send(index).map(Some),
+            Command::FailedSend { index } => self.failed_send(index)?,
+            Command::Deliver { index } => self.deliver(index)?,
+            Command::Tick => self.tick(),
+            Command::Foreign { ref frame } => self.foreign(frame)?,
+            Command::Message { index, field, len, data } => {
+                self.message(index, field, len, data)?
+            }
+            Command::Enquiry { index, len, id } => self.enquiry(index, len, id)?,
+            Command::Release { index } => self.release(index)?,
+        }
+        Ok(None)
+    }
+
+    /// 1, 3.
+    pub fn power_on(&mut self, index: u8, id: u64) -> Result<(), Refusal> {
+        let place = place(index)?;
+        self.nodes[place] = Node::power_on(id)?;
+        self.inboxes[place].clear();
+        self.on |= bit(place);
+        self.full &= !bit(place);
+        Ok(())
+    }
+
+    /// 1, 2, 4, 5.
+    pub fn send(&mut self, index: u8) -> Result<Frame, Refusal> {
+        let place = place(index)?;
+        let frame = self.nodes[place].due_or_refusal()?;
+        if self.full & !bit(place) != 0 {
+            return Err(Refusal::InboxFull);
+        }
+        self.change(place, Node::left);
+        self.broadcast(self.on & !bit(place), &frame);
+        Ok(frame)
+    }
+
+    /// 1, 2, 4.
+    pub fn failed_send(&mut self, index: u8) -> Result<(), Refusal> {
+        self.nodes[place(index)?].fails()
+    }
+
+    /// 1, 2, 6.
+    pub fn deliver(&mut self, index: u8) -> Result<(), Refusal> {
+        let place = place(index)?;
+        if self.nodes[place].is_off() {
+            return Err(Refusal::Off);
+        }
+        let frame = self.inboxes[place].pop().ok_or(Refusal::InboxEmpty)?;
+        self.change(place, |node| node.hear(&frame));
+        self.full &= !bit(place);
+        Ok(())
+    }
+
+    /// Never refused.
+    pub fn tick(&mut self) {
+        self.now += 1;
+        for node in &mut self.nodes {
+            node.tick();
+        }
+        if !self.late {
+            self.late = (0..Self::PLACES).any(|place| self.oldest_age(place) > Self::LATENESS);
+        }
+    }
+
+    /// 9, 5.
+    pub fn foreign(&mut self, frame: &Frame) -> Result<(), Refusal> {
+        let frame = frame.checked()?;
+        if self.full != 0 {
+            return Err(Refusal::InboxFull);
+        }
+        self.broadcast(self.on, &frame);
+        Ok(())
+    }
+
+    /// 1, 2, 9, 7, 8.
+    pub fn message(
+        &mut self,
+        index: u8,
+        field: u16,
+        len: u8,
+        data: [u8; 8],
+    ) -> Result<(), Refusal> {
+        self.nodes[place(index)?].message(field, len, data)
+    }
+
+    /// 1, 2, 9, 7, 8.
+    pub fn enquiry(&mut self, index: u8, len: u8, id: [u8; 6]) -> Result<(), Refusal> {
+        self.nodes[place(index)?].enquiry(len, id)
+    }
+
+    /// 1, 2, 7.
+    pub fn release(&mut self, index: u8) -> Result<(), Refusal> {
+        let place = place(index)?;
+        self.change(place, Node::release)
+    }
+
+    /// Lets an event happen at a node, and starts the age of what it owes anew if that changed.
+    #[inline]
+    fn change<R>(&mut self, place: usize, event: impl FnOnce(&mut Node) -> R) -> R {
+        let node = &mut self.nodes[place];
+        let owed = node.owed();
+        let answer = event(node);
+        if node.owed() != owed {
+            self.owed_since[place] = self.now;
+        }
+        answer
+    }
+
+    /// Adds a frame to these places' inboxes, all of which have room.
+    fn broadcast(&mut self, places: u32, frame: &Frame) {
+        let mut rest = places;
+        while rest != 0 {
+            let place = rest.trailing_zeros() as usize;
+            rest &= rest - 1;
+            let inbox = &mut self.inboxes[place];
+            inbox.push(frame, self.now);
+            if inbox.is_full() {
+                self.full |= bit(place);
+            }
+        }
+    }
+
+    /// The greatest age at a place, 0 if nothing there has one.
+    #[inline]
+    fn oldest_age(&self, place: usize) -> u64 {
+        let inbox = self.inbox_age(place).unwrap_or(0);
+        inbox.max(self.owed_age(place).unwrap_or(0))
+    }
+
+    /// The age of the oldest frame in an inbox.
+    #[inline]
+    pub fn inbox_age(&self, place: usize) -> Option<u64> {
+        self.inboxes[place].oldest().map(|since| self.now - since)
+    }
+
+    /// The age of the reply RID or AMR that a node owes.
+    #[inline]
+    pub fn owed_age(&self, place: usize) -> Option<u64> {
+        match self.nodes[place].owed() {
+            Owed::Nothing => None,
+            Owed::Reply | Owed::Amr => Some(self.now - self.owed_since[place]),
+        }
+    }
+
+    pub fn is_late(&self) -> bool {
+        self.late
+    }
+
+    pub fn node(&self, place: usize) -> &Node {
+        &self.nodes[place]
+    }
+
+    /// The frames of an inbox in order, each with its age.
+    pub fn inbox(&self, place: usize) -> impl Iterator<Item = (&Frame, u64)> {
+        self.inboxes[place].iter().map(|(frame, since)| (frame, self.now - since))
+    }
+
+    pub fn inbox_len(&self, place: usize) -> usize {
+        self.inboxes[place].len()
+    }
+
+    /// All that demand 3 compares of one node.
+    pub fn view(&self, place: usize) -> View {
+        let node = &self.nodes[place];
+        View {
+            state: node.state(),
+            tested_alias: node.tested_alias(),
+            used_alias: node.used_alias(),
+            due: node.due(),
+            inbox: self.inbox(place).map(|(frame, _)| *frame).collect(),
+        }
+    }
+}
+
+/// The place of an index; 1 above 23.
+#[inline]
+fn place(index: u8) -> Result<usize, Refusal> {
+    let place = usize::from(index);
+    if place < Segment::PLACES {
+        Ok(place)
+    } else {
+        Err(Refusal::NoSuchIndex)
+    }
+}
+
+fn bit(place: usize) -> u32 {
+    1 << place
+}
+
+/// No two places use one alias, and no two have due frames with one header and different data.
+pub fn claim_holds(segment: &Segment) -> bool {
+    let used = segment.nodes.each_ref().map(Node::used_alias);
+    let due = segment.nodes.each_ref().map(Node::due);
+    let one_alias = |p: usize, q: usize| used[p].is_some() && used[p] == used[q];
+    let clash = |p: usize, q: usize| match (&due[p], &due[q]) {
+        (Some(a), Some(b)) => a.header == b.header && a.bytes() != b.bytes(),
+        _ => false,
+    };
+    (0..Segment::PLACES).all(|p| (0..p).all(|q| !one_alias(p, q) && !clash(p, q)))
+}

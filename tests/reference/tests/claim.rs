@@ -1,0 +1,160 @@
+//! The claim itself, after every command of random kept scripts; and other facts of all scripts.
+
+use reference::generate::corpus;
+use reference::generate::draft::Draft;
+use reference::generate::prng::Prng;
+use reference::generate::walker::{walk, Temper, Walker};
+use reference::node::Owed;
+use reference::{claim_holds, run, Command, Node, Segment, State, View};
+
+/// Another seed can be given as SEED.
+fn seed() -> u64 {
+    let given = std::env::var("SEED").ok().and_then(|text| text.parse().ok());
+    given.unwrap_or(0x0201_2100_0001)
+}
+
+#[test]
+fn aliases_are_single_in_kept_lists() {
+    let (mut kept, mut several_users, mut contested) = (0, 0, 0);
+    for number in 0..2_000 {
+        let mut rng = Prng::new(seed().wrapping_add(number));
+        let mut temper = Temper::random(&mut rng, 2_500);
+        temper.kept = number % 10 != 0;
+        let mut walker = Walker::new(&mut rng, temper);
+        walker.run();
+        assert!(walker.claim_held, "seed {} script {number}", seed());
+        let segment = &walker.draft.segment;
+        assert!(number % 10 == 0 || !segment.is_late(), "script {number} should be kept");
+        kept += usize::from(!segment.is_late());
+        several_users += usize::from(walker.most_users > 1);
+        contested += usize::from(walker.contested);
+    }
+    println!("{kept} kept; {several_users} with several users, {contested} with a contested alias");
+    assert!(kept >= 1_800 && several_users >= 700 && contested >= 400);
+}
+
+#[test]
+fn aliases_are_single_in_the_corpus() {
+    for script in corpus::scripts(corpus::SEED) {
+        let mut segment = Segment::new();
+        let mut rest = &script[..];
+        while let Ok((command, after)) = Command::read(rest) {
+            let _ = segment.carry_out(&command);
+            assert!(segment.is_late() || claim_holds(&segment));
+            rest = after;
+        }
+    }
+}
+
+/// What the claim is about: in a late list two nodes do come to use one alias.
+#[test]
+fn a_late_list_can_break_the_claim() {
+    let mut draft = Draft::permitted(&[0x0501_0101_0101]);
+    draft.power_on(1, 0x0501_0101_0101 + 4095);
+    draft.send(1).send(1).send(1).send(1).ticks(201).send(1);
+    assert_eq!(draft.alias(0), draft.alias(1));
+    assert_eq!(draft.state(1), State::Reserved);
+    assert!(draft.segment.is_late() && !claim_holds(&draft.segment));
+}
+
+/// Everything that can be seen of a place, with ages.
+type Picture = (Node, View, Vec<u64>, Option<u64>);
+
+fn picture(segment: &Segment) -> (Vec<Picture>, bool) {
+    let one = |place| {
+        let ages = segment.inbox(place).map(|(_, age)| age).collect();
+        (*segment.node(place), segment.view(place), ages, segment.owed_age(place))
+    };
+    ((0..Segment::PLACES).map(one).collect(), segment.is_late())
+}
+
+#[test]
+fn refusals_change_nothing() {
+    let mut refused = 0;
+    for number in 0..60 {
+        let mut rng = Prng::new(seed() ^ number);
+        let mut temper = Temper::random(&mut rng, 700);
+        temper.weights = [8, 30, 8, 40, 20, 15, 15, 15];
+        let script = walk(&mut rng, temper);
+        let mut segment = Segment::new();
+        let mut rest = &script[..];
+        while let Ok((command, after)) = Command::read(rest) {
+            let before = picture(&segment);
+            if segment.carry_out(&command).is_err() {
+                refused += 1;
+                assert!(picture(&segment) == before, "{command:?}");
+            }
+            rest = after;
+        }
+    }
+    assert!(refused > 1_000);
+}
+
+/// Ages counted one by one, as document 01 says it, beside the segment's own way.
+#[derive(Default, Clone)]
+struct Ages {
+    inbox: Vec<u64>,
+    owed: Option<(bool, u64)>,
+}
+
+fn count_ages(ages: &mut [Ages], before: &[View], segment: &Segment, command: &Command) {
+    for (place, ages) in ages.iter_mut().enumerate() {
+        let index = place as u8;
+        let now = segment.inbox_len(place);
+        match *command {
+            Command::PowerOn { index: i, .. } if i == index && now == 0 => ages.inbox.clear(),
+            Command::Deliver { index: i } if i == index && now < before[place].inbox.len() => {
+                ages.inbox.remove(0);
+            }
+            _ if now > before[place].inbox.len() => ages.inbox.push(0),
+            _ => {}
+        }
+        let node = segment.node(place);
+        ages.owed = match (node.owed(), ages.owed) {
+            (Owed::Nothing, _) => None,
+            (Owed::Reply, Some((true, age))) | (Owed::Amr, Some((false, age))) => {
+                Some((node.owed() == Owed::Reply, age))
+            }
+            (owed, _) => Some((owed == Owed::Reply, 0)),
+        };
+        if *command == Command::Tick {
+            ages.inbox.iter_mut().for_each(|age| *age += 1);
+            ages.owed = ages.owed.map(|(reply, age)| (reply, age + 1));
+        }
+    }
+}
+
+#[test]
+fn late_is_as_the_ages_say() {
+    let (mut late_lists, mut kept_lists) = (0, 0);
+    for number in 0..150 {
+        let mut rng = Prng::new(seed() ^ 0x5000 ^ number);
+        let temper = Temper::random(&mut rng, 500);
+        let script = walk(&mut rng, temper);
+        let mut segment = Segment::new();
+        let mut ages = vec![Ages::default(); Segment::PLACES];
+        let (mut late, mut rest) = (false, &script[..]);
+        while let Ok((command, after)) = Command::read(rest) {
+            let before: Vec<View> = (0..Segment::PLACES).map(|p| segment.view(p)).collect();
+            let _ = segment.carry_out(&command);
+            count_ages(&mut ages, &before, &segment, &command);
+            late |= ages.iter().any(|a| a.inbox.iter().any(|&age| age > 40));
+            late |= ages.iter().any(|a| a.owed.is_some_and(|(_, age)| age > 40));
+            assert_eq!(segment.is_late(), late);
+            rest = after;
+        }
+        late_lists += usize::from(late);
+        kept_lists += usize::from(!late);
+    }
+    assert!(late_lists >= 15 && kept_lists >= 50, "{late_lists} late, {kept_lists} kept");
+}
+
+/// The output is one line for each command and a last word, at any length.
+#[test]
+fn long_scripts_have_a_line_for_each_command() {
+    let mut out = Vec::new();
+    run(&[0x05; 200_000], &mut out);
+    let text = String::from_utf8(out).unwrap();
+    assert_eq!(text.lines().count(), 200_001);
+    assert!(text.ends_with("200000 05 ok\nkept\n"));
+}
