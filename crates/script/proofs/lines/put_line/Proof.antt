@@ -1,0 +1,18 @@
+use Rattle.script.specs.Sheet.{then}
+use Rattle.script.specs.Rules.{line}
+use borrow.Author.Needs.{needs}
+use Rattle.script.proofs.lines.put_line.Statement.{statement}
+use Rattle.script.proofs.lines.put_line.Tie as tie
+
+pub put-line-spec : {M : Type 1} → statement M
+unfolding line
+put-line-spec =
+    tie.close (tie.spec
+    (λ c κs. search needs)
+    (λ c κs. search needs)
+    (λ c κs. search needs)
+    (λ c κs. search needs)
+    (λ c κs. search needs)
+    (λ c κs. search needs)
+    (λ c. search needs)
+    (λ c. then (then (then (then (then (c .before .before .before .before .before .before .before .before .before .before .before .before .before .before .before .before .before .before .before .before .before .before .put-decimal .ensures) (c .before .before .before .before .before .before .before .before .before .before .before .before .before .before .before .before .before .before .put .ensures)) (c .before .before .before .before .before .before .before .before .before .before .before .before .before .before .put-hex .ensures)) (c .before .before .before .before .before .before .before .before .before .before .put2 .ensures)) (c .before .before .before .before .before .before .put-answer .ensures)) (c .before .before .put3 .ensures)))

@@ -1,0 +1,80 @@
+-- Document 01's script and its whole output, of the rules; and a line of each kind that the script does not meet.
+use mathlib.Core.Path.{_≡_, refl}
+use mathlib.Core.List.{List, [], _∷_}
+use Prim.Native.Nat.{ℕ}
+use Rattle.headers.specs.Rules.{kindIn, mixed}
+use Rattle.node.specs.Rules.{
+  offNode,
+  fresh,
+  restart,
+  moved,
+  waits,
+  cidFrame,
+  ridFrame,
+  amdFrame,
+  amrFrame,
+  reportFrame,
+  firstWaiting,
+  dueOf,
+  sentOf,
+  failedOf,
+  powerOn,
+  leaves,
+  accepted,
+  refused,
+  left,
+}
+use Rattle.table.specs.Rules.{kept}
+use Rattle.script.specs.Rules.{
+  number,
+  form,
+  readOf,
+  onward,
+  readUpTo,
+  listed,
+  digit,
+  hex,
+  decimalUpTo,
+  dataText,
+  answerText,
+  line,
+  lines,
+  lastLine,
+  outputOf,
+  output,
+  frame,
+}
+
+-- 01 00 05 01 01 01 01 01 04 00 02 00 02 18
+pub script : List ℕ
+script = 0x01 ∷ 0x00 ∷ 0x05 ∷ 0x01 ∷ 0x01 ∷ 0x01 ∷ 0x01 ∷ 0x01 ∷ 0x04 ∷ 0x00 ∷ 0x02 ∷ 0x00 ∷ 0x02 ∷ 0x18 ∷ []
+
+-- 1 01 ok
+-- 2 04 refused 6
+-- 3 02 ok 17050263
+-- 4 02 refused 1
+-- kept
+pub text : List ℕ
+text =
+    49 ∷ 32 ∷ 48 ∷ 49 ∷ 32 ∷ 111 ∷ 107 ∷ 10
+    ∷ 50 ∷ 32 ∷ 48 ∷ 52 ∷ 32 ∷ 114 ∷ 101 ∷ 102 ∷ 117 ∷ 115 ∷ 101 ∷ 100 ∷ 32 ∷ 54 ∷ 10
+    ∷ 51 ∷ 32 ∷ 48 ∷ 50 ∷ 32 ∷ 111 ∷ 107 ∷ 32 ∷ 49 ∷ 55 ∷ 48 ∷ 53 ∷ 48 ∷ 50 ∷ 54 ∷ 51 ∷ 10
+    ∷ 52 ∷ 32 ∷ 48 ∷ 50 ∷ 32 ∷ 114 ∷ 101 ∷ 102 ∷ 117 ∷ 115 ∷ 101 ∷ 100 ∷ 32 ∷ 49 ∷ 10
+    ∷ 107 ∷ 101 ∷ 112 ∷ 116 ∷ 10
+    ∷ []
+
+pub example : output script ≡ text
+unfolding script text number form readOf onward readUpTo listed digit hex decimalUpTo dataText answerText line lines lastLine outputOf output kept offNode fresh restart moved waits cidFrame ridFrame amdFrame amrFrame reportFrame firstWaiting dueOf sentOf failedOf powerOn leaves kindIn mixed
+example = refl
+
+-- 12345 FF refused 10
+pub refusal-line : line 12345 0xFF (refused 10) ≡ 49 ∷ 50 ∷ 51 ∷ 52 ∷ 53 ∷ 32 ∷ 70 ∷ 70 ∷ 32 ∷ 114 ∷ 101 ∷ 102 ∷ 117 ∷ 115 ∷ 101 ∷ 100 ∷ 32 ∷ 49 ∷ 48 ∷ 10 ∷ []
+unfolding digit hex decimalUpTo dataText answerText line
+refusal-line = refl
+
+-- 7 02 ok 195B4263 01010000000201: the seven bytes of the duplicate report
+pub report-line : line 7 0x02 (accepted (left (frame 0 0x195B4263 7 0x0101000000020100)))
+    ≡ 55 ∷ 32 ∷ 48 ∷ 50 ∷ 32 ∷ 111 ∷ 107 ∷ 32 ∷ 49 ∷ 57 ∷ 53 ∷ 66 ∷ 52 ∷ 50 ∷ 54 ∷ 51 ∷ 32
+    ∷ 48 ∷ 49 ∷ 48 ∷ 49 ∷ 48 ∷ 48 ∷ 48 ∷ 48 ∷ 48 ∷ 48 ∷ 48 ∷ 50 ∷ 48 ∷ 49 ∷ 10 ∷ []
+unfolding digit hex decimalUpTo dataText answerText line
+report-line = refl
