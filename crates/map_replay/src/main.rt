@@ -1,0 +1,142 @@
+// Runs the map over the operations on standard input, and writes a line for each: a test against another implementation.
+use alias_map::answer::Answer;
+use alias_map::answer::FoundAlias;
+use alias_map::answer::FoundId;
+use alias_map::answer::Refusal;
+use alias_map::map::Map;
+use headers::alias::Alias;
+use libc::STDIN_FILENO;
+use libc::STDOUT_FILENO;
+use node::frame::Frame;
+ghost use mathlib.Core.Path.{_≡_};
+ghost use Prim.Native.Nat.{_<_};
+ghost use lib.ListN.{length};
+
+// More operations than this are not run.
+const MOST: usize = 100_000;
+
+fn wide(b: u8) -> u64
+    ensures { λ r. ⌜ r < 256 ⌝ }
+{
+    b as u64
+}
+
+// The bytes from one place to before another as a number, the first highest.
+fn number(b: &[u8; 14], from: usize, to: usize) -> u64 {
+    let mut n: u64 = 0;
+    for i in from..to {
+        if i < 14 {
+            n = n % 0x100_0000_0000_0000 * 256 + wide(b[i]);
+        }
+    }
+    n
+}
+
+fn digit(n: u64) -> u8 {
+    let d = (n % 16) as u8;
+    if d < 10 { 48 + d } else { 55 + d }
+}
+
+// The last twelve hex digits, and a line feed.
+fn hex_line(n: u64) -> [u8; 13]
+    ensures { λ r. ⌜ 13 ≡ length r ⌝ }
+{
+    let mut text = [10u8; 13];
+    let mut rest = n;
+    for i in 0..12 {
+        text[11 - i] = digit(rest);
+        rest = rest / 16;
+    }
+    text
+}
+
+fn note(map: Map, b: &[u8; 14]) -> Map {
+    let f = Frame {
+        kind: b[0],
+        header: (number(b, 1, 5) % 0x1_0000_0000) as u32,
+        len: b[5],
+        bytes: number(b, 6, 14),
+    };
+    let noted = map.note(f);
+    let answer = noted.answer;
+    match answer {
+        Answer::Accepted => {
+            io::write_all(STDOUT_FILENO, b"ok\n");
+        }
+        Answer::Refused(r) => match r {
+            Refusal::Malformed => {
+                io::write_all(STDOUT_FILENO, b"refused 9\n");
+            }
+            Refusal::Full => {
+                io::write_all(STDOUT_FILENO, b"refused 12\n");
+            }
+        },
+    }
+    noted.map
+}
+
+fn look_up_alias(map: Map, b: &[u8; 14]) {
+    match map.id_of(Alias((number(b, 0, 2) % 0x1_0000) as u16)) {
+        FoundId::Id(id) => {
+            let text = hex_line(id);
+            io::write_all(STDOUT_FILENO, b"ok ");
+            io::write_all(STDOUT_FILENO, &text);
+        }
+        FoundId::Absent => {
+            io::write_all(STDOUT_FILENO, b"refused 13\n");
+        }
+    }
+}
+
+fn look_up_id(map: Map, b: &[u8; 14]) {
+    match map.alias_of(number(b, 0, 6)) {
+        FoundAlias::Alias(a) => {
+            let text = hex_line(a.0 as u64);
+            io::write_all(STDOUT_FILENO, b"ok ");
+            io::write_all(STDOUT_FILENO, &text[9..]);
+        }
+        FoundAlias::Absent => {
+            io::write_all(STDOUT_FILENO, b"refused 13\n");
+        }
+    }
+}
+
+// One operation: 0 notes a frame, 1 looks an alias up, 2 a Node ID, 3 begins with an empty map.
+fn carry_out(map: Map, op: u8) -> Map {
+    let mut b = [0u8; 14];
+    match op {
+        0 => {
+            io::read_full(STDIN_FILENO, &mut b);
+            note(map, &b)
+        }
+        1 => {
+            io::read_full(STDIN_FILENO, &mut b[..2]);
+            look_up_alias(map, &b);
+            map
+        }
+        2 => {
+            io::read_full(STDIN_FILENO, &mut b[..6]);
+            look_up_id(map, &b);
+            map
+        }
+        3 => {
+            io::write_all(STDOUT_FILENO, b"new\n");
+            Map::empty()
+        }
+        _ => {
+            io::write_all(STDOUT_FILENO, b"unknown\n");
+            map
+        }
+    }
+}
+
+fn main() {
+    let mut map = Map::empty();
+    for _ in 0..MOST {
+        let mut op = [0u8; 1];
+        if io::read_full(STDIN_FILENO, &mut op) == 0 {
+            return;
+        }
+        map = carry_out(map, op[0]);
+    }
+}
