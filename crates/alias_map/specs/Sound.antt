@@ -26,7 +26,7 @@ abbrev pub AllNamed : List Entry → Type 0
 AllNamed [] = Unit {0}
 AllNamed (e ∷ es) = Named e × AllNamed es
 
--- At most 64, no alias twice, no Node ID twice.
+-- At most 64, no alias twice, no Node ID twice, none 0 or too wide.
 pub record Sound (es : List Entry) : Type 0 where
   pub few : length es ≤ room
   pub aliases : (a : ℕ) → count (hasAlias a) es ≤ 1
