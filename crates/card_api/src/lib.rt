@@ -1,29 +1,11 @@
 // The table's commands for C: the same operations over a plain pointer to its words, answers as numbers.
 use node::answer::Answer;
-use node::answer::Refusal;
 use node::frame::Frame;
 use table::layout::WORDS;
 ghost use mathlib.Core.Path.{_≡_};
-ghost use Rattle.node.specs.Answers.{refusalAs};
 ghost use Rattle.table.specs.Rules.{powerOn, send, fail, deliver, tick, foreign, message, enquiry, release};
 ghost use Rattle.table.specs.Words.{Fresh, lateOf};
 ghost use Rattle.card_api.specs.Answers.{codeOf, lateCode, Coded, SentWords, CodedSend};
-
-fn number(r: Refusal) -> u64
-    ensures { λ n. ⌜ n ≡ refusalAs r ⌝ }
-{
-    match r {
-        Refusal::BadIndex => 1,
-        Refusal::Off => 2,
-        Refusal::BadNodeId => 3,
-        Refusal::NothingDue => 4,
-        Refusal::InboxFull => 5,
-        Refusal::InboxEmpty => 6,
-        Refusal::NotPermitted => 7,
-        Refusal::HostWaiting => 8,
-        Refusal::Malformed => 9,
-    }
-}
 
 // 0 where accepted, else the refusal's number.
 fn code(a: Answer) -> u64
@@ -32,7 +14,7 @@ fn code(a: Answer) -> u64
     match a {
         Answer::Accepted => 0,
         Answer::Sent(_) => 0,
-        Answer::Refused(r) => number(r),
+        Answer::Refused(r) => r.number() as u64,
     }
 }
 

@@ -1,12 +1,11 @@
 // The lines of a run, put byte by byte into a lent buffer. What finds no room is dropped, and the place stays at the end.
 use node::answer::Answer;
-use node::answer::Refusal;
 use node::frame::Frame;
 ghost use mathlib.Core.Path.{_≡_};
 ghost use mathlib.Core.Bool.{not};
 ghost use mathlib.Core.List.{[], _∷_};
 ghost use Prim.Native.Nat.{_<_};
-ghost use Rattle.node.specs.Answers.{refusalAs, answerAs};
+ghost use Rattle.node.specs.Answers.{answerAs};
 ghost use Rattle.script.specs.Rules.{digit as digitOf, hex, decimal, answerText, dataText, line, lastLine};
 ghost use Rattle.script.specs.Answers.{saidAs};
 ghost use Rattle.script.specs.Sheet.{sheet, Wrote};
@@ -19,29 +18,13 @@ pub(crate) enum Said {
     Refused(u8),
 }
 
-pub fn number_of(r: Refusal) -> u8
-    ensures { λ n. ⌜ n ≡ refusalAs r ⌝ }
-{
-    match r {
-        Refusal::BadIndex => 1,
-        Refusal::Off => 2,
-        Refusal::BadNodeId => 3,
-        Refusal::NothingDue => 4,
-        Refusal::InboxFull => 5,
-        Refusal::InboxEmpty => 6,
-        Refusal::NotPermitted => 7,
-        Refusal::HostWaiting => 8,
-        Refusal::Malformed => 9,
-    }
-}
-
 pub(crate) fn said_of(a: Answer) -> Said
     ensures { λ r. ⌜ saidAs r ≡ answerAs a ⌝ }
 {
     match a {
         Answer::Accepted => Said::Accepted,
         Answer::Sent(f) => Said::Sent(f),
-        Answer::Refused(r) => Said::Refused(number_of(r)),
+        Answer::Refused(r) => Said::Refused(r.number()),
     }
 }
 

@@ -43,9 +43,6 @@ module _ (k l h w : ℕ) (hk : k < 2 ^ 8) (hl : l < 2 ^ 8) (hh : h < 2 ^ 32) (e 
   pack-header : w / 2 ^ 16 ≡ h
   pack-header = omega arith
 
-  pub pack-fits : w < 2 ^ 48
-  pack-fits = omega arith
-
 pub frame-back : (f : Frame) (w : ℕ) → f .kind < 2 ^ 8 → f .len < 2 ^ 8 → f .header < 2 ^ 32
     → w ≡ f .kind + 2 ^ 8 * f .len + 2 ^ 16 * f .header → frameFrom w (f .bytes) ≡ f
 unfolding frameFrom

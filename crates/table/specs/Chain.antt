@@ -8,31 +8,11 @@ use native.Mathlib.Nat.{le-of-suc-le-suc, not-suc-le-zero}
 use native.Mathlib.Omega.{arith}
 use lib.Dec.{ltb, eqb}
 use borrow.Author.Tests.{ltb-true, ltb-false, eqb-true, eqb-false}
-use lib.ListN.{length, getD, set, length-set, getD-replicate}
-use lib.Seq.{ext-getD, getD-set-same, getD-set-other}
+use lib.ListN.{length, getD}
+use lib.Seq.{ext-getD}
 use Rattle.table.specs.Rules.{places, Place, Places, blank, at}
 use Rattle.table.specs.Laws.{place-eq}
-use Rattle.table.specs.Words.{
-  block,
-  countAt,
-  firstAt,
-  ageAt,
-  slot,
-  lateAt,
-  nodeFrom,
-  nodeAt,
-  itemFrom,
-  itemAt,
-  items,
-  inbox,
-  placeAt,
-  lateOf,
-  row,
-  view,
-  Held,
-  At,
-  Fresh,
-}
+use Rattle.table.specs.Words.{block, countAt, firstAt, ageAt, slot, lateAt, nodeFrom, nodeAt, itemFrom, itemAt, items, inbox, placeAt, lateOf, row, view, Held, At}
 
 pub lt-or-le : (a b : ℕ) → (a < b) ⊎ (b ≤ a)
 lt-or-le a b = go (ltb a b) refl
@@ -72,14 +52,6 @@ pub view-is : (t : List ℕ) (T : Places) → length T ≡ places → ((k : ℕ)
 view-is t T e h =
     let l = length-view t in
     ext-getD blank (view t) T (l ∙ sym e) (λ k hk. view-at t k (omega arith) ∙ h k (omega arith))
-
--- words whose places agree have one view
-pub view-ext : (t t′ : List ℕ) → ((k : ℕ) → k < places → placeAt t′ k ≡ placeAt t k) → view t′ ≡ view t
-view-ext t t′ h = view-is t′ (view t) (length-view t) (λ k hk. h k hk ∙ sym (view-at t k hk))
-
--- before any command each place is blank
-pub fresh-at : {t : List ℕ} → Fresh t → (k : ℕ) → k < places → placeAt t k ≡ blank
-fresh-at {t} f k hk = sym (view-at t k hk) ∙ ap (λ (T : Places). at T k) (f .table) ∙ getD-replicate places k blank blank hk
 
 -- WORDS AND PLACES
 
@@ -146,16 +118,6 @@ at-held {t} {t′} {k} h a = record {
 
 pub at-late : {t t′ : List ℕ} {k : ℕ} {p : Place} → k < places → At t k p t′ → lateOf t′ ≡ lateOf t
 at-late hk a = ap (λ (x : ℕ). eqb x 1) (a .above lateAt (omega arith))
-
--- the view changes at that place alone
-pub view-set : {t t′ : List ℕ} {k : ℕ} {p : Place} → k < places → At t k p t′ → view t′ ≡ set (view t) k p
-view-set {t} {t′} {k} {p} hk a =
-    let l = length-view t in
-    view-is t′ (set (view t) k p) (length-set (view t) k p ∙ l)
-    (λ j hj. ⊎-elim
-    (λ (e : j ≡ k). ap (placeAt t′) e ∙ a .this ∙ sym (ap (at (set (view t) k p)) e ∙ getD-set-same (view t) k p blank (omega arith)))
-    (λ (ne : j ≢ k). at-other a j ne ∙ sym (getD-set-other (view t) k j p blank ne ∙ view-at t j hj))
-    (eq-or-ne j k))
 
 -- one after the other at the same place
 pub at-then : {t t′ t″ : List ℕ} {k : ℕ} {p p′ : Place} → At t k p t′ → At t′ k p′ t″ → At t k p′ t″

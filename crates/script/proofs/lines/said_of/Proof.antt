@@ -15,4 +15,4 @@ said-of-spec =
     (λ c κs. search needs)
     (λ c. search needs)
     (λ c. simp (c .before .a .given .1))
-    (λ c. simp (c .before .before .a2 .given .1, c .number-of .ensures)))
+    (λ c. simp (c .before .before .a2 .given .1, c .number .ensures)))
