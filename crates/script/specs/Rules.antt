@@ -43,6 +43,7 @@ pub data Form : Type 0 where
 abbrev pub frame : (kind header len bytes : ℕ) → Frame
 frame kind header len bytes = record { kind = kind; header = header; len = len; bytes = bytes }
 
+-- The commands by their bytes, with their operands as document 01 lists them.
 unfoldable pub form : (byte : ℕ) → Form
 form b =
     cond (eqb b 0x01) (operand 1 λ index. operand 6 λ id. makes (powerOn index id))
@@ -62,12 +63,13 @@ pub data Found : Type 0 where
   refusal : (byte number : ℕ) → Found
   nothing : Found
 
--- An unknown command is 10, one cut short 11.
+-- The operands are read in order from a place on. An unknown command is 10, one cut short 11.
 abbrev pub found : (byte : ℕ) → Form → (from : ℕ) → List ℕ → Found
 found b (operand width then) from s = found b (then (number s from width)) (from + width) s
 found b (makes c) from s = cond (leb from (length s)) (command b c from) (refusal b 11)
 found b unknown from s = refusal b 10
 
+-- They follow the command's byte.
 unfoldable pub readOf : List ℕ → Found
 readOf [] = nothing
 readOf (b ∷ s) = found b (form b) 1 (b ∷ s)
@@ -84,7 +86,8 @@ onward (command b c took) rest = next b c (rest took)
 onward (refusal b n) rest = stop b n
 onward nothing rest = end
 
--- k bounds the commands: each takes a byte or more, so that one more than there are bytes is never reached.
+-- k bounds the commands. Each takes a byte or more, so that one more than there are bytes ends no script: the law
+-- `goes-on` of Scripts.antt.
 unfoldable pub readUpTo : (k : ℕ) → List ℕ → Script
 readUpTo zero s = end
 readUpTo (suc k) s = onward (readOf s) (λ took. readUpTo k (drop took s))
@@ -140,6 +143,7 @@ answerText (accepted done) = ok
 answerText (accepted (left f)) = ok ++ space ++ hex 8 (f .header) ++ dataText (f .len) (f .bytes)
 answerText (refused n) = refusedWord ++ decimal n
 
+-- Count, command byte and answer, parted by single spaces.
 unfoldable pub line : (count byte : ℕ) → Answer Value → List ℕ
 line count byte a = decimal count ++ space ++ hex 2 byte ++ space ++ answerText a ++ feed
 

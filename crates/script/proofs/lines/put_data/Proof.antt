@@ -1,3 +1,4 @@
+use native.Mathlib.Omega.{arith}
 use Rattle.script.specs.Rules.{hex}
 use Rattle.script.specs.Sheet.{blank, then, alike}
 use Rattle.script.specs.Text.{data-none, data-short, data-long}
@@ -18,7 +19,7 @@ put-data-spec =
     (λ c κs. search needs)
     (λ c κs. search needs)
     (λ c. search needs)
-    (λ c. alike (then (c .before .before .before .before .before .before .before .before .put .ensures) (c .before .before .put-hex .ensures)) (ap (λ (x : ℕ). (32 ∷ []) ++ hex (2 * c .before .before .before .before .before .before .before .before .before .before .before .before .args .len) x) (c .before .before .before .shortened .ensures) ∙ data-short _ _ (c .before .before .before .before .before .before .before .before .before .before .if1 .left) (c .before .before .before .before .before .if2 .taken)))
+    (λ c. alike (then (c .before .before .before .before .before .before .before .before .put .ensures) (c .before .before .put-hex .ensures)) (ap (λ (x : ℕ). (32 ∷ []) ++ hex (2 * c .before .before .before .before .before .before .before .before .before .before .before .before .args .len) x) (c .before .before .before .shortened .ensures) ∙ data-short _ _ (c .before .before .before .before .before .before .before .before .before .before .if1 .left) (omega arith)))
     (λ c κs. search needs)
     (λ c. search needs)
-    (λ c. alike (then (c .before .before .before .before .before .before .before .put .ensures) (c .before .before .put-hex2 .ensures)) (data-long _ _ (c .before .before .before .before .before .before .before .before .before .if1 .left) (c .before .before .before .before .if2 .left))))
+    (λ c. alike (then (c .before .before .before .before .before .before .before .put .ensures) (c .before .before .put-hex2 .ensures)) (data-long _ _ (c .before .before .before .before .before .before .before .before .before .if1 .left) (omega arith))))
