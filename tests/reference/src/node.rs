@@ -17,6 +17,18 @@ pub enum State {
     Silent,
 }
 
+impl State {
+    /// All but Off.
+    pub const ON: [State; 6] = [
+        State::Testing,
+        State::Reserved,
+        State::Permitted,
+        State::Leaving,
+        State::Resting,
+        State::Silent,
+    ];
+}
+
 /// A state with what belongs to it alone. Check, Wait and Reserve are Testing.
 #[derive(Clone, Copy, Debug, PartialEq, Eq)]
 pub enum Phase {

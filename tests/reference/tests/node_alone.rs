@@ -28,16 +28,6 @@ fn in_state(state: State) -> Node {
     node
 }
 
-const STATES: [State; 7] = [
-    State::Off,
-    State::Testing,
-    State::Reserved,
-    State::Permitted,
-    State::Leaving,
-    State::Resting,
-    State::Silent,
-];
-
 /// Refused by this number, and unchanged.
 fn refused<R>(node: Node, number: u8, event: impl FnOnce(&mut Node) -> Result<R, Refusal>) {
     let mut after = node;
@@ -79,7 +69,7 @@ fn malformed_frames_and_orders_are_9_in_every_other_state() {
         Frame { header: 1 << 29, kind: 1, ..Frame::EMPTY },
         Frame { header: 0x800, kind: 2, ..Frame::EMPTY },
     ];
-    for state in &STATES[1..] {
+    for state in &State::ON {
         let node = in_state(*state);
         for frame in malformed {
             refused(node, 9, |node| node.receives(&frame));
@@ -94,7 +84,7 @@ fn malformed_frames_and_orders_are_9_in_every_other_state() {
 
 #[test]
 fn host_orders_outside_permitted_are_7() {
-    for state in STATES.into_iter().filter(|&s| s != State::Off && s != State::Permitted) {
+    for state in State::ON.into_iter().filter(|&s| s != State::Permitted) {
         let node = in_state(state);
         refused(node, 7, |node| node.message(0, 0, [0; 8]));
         refused(node, 7, |node| node.enquiry(6, [1; 6]));

@@ -101,15 +101,6 @@ pub enum Sort {
 
 const SORTS: [Sort; 5] = [Sort::Extended, Sort::Remote, Sort::ElevenBit, Sort::Reply, Sort::Amr];
 
-const STATES: [State; 6] = [
-    State::Testing,
-    State::Reserved,
-    State::Permitted,
-    State::Leaving,
-    State::Resting,
-    State::Silent,
-];
-
 /// Every answer that each command can give.
 const ANSWERS: [(u8, &[u8]); 9] = [
     (1, &[0, 1, 3]),
@@ -169,8 +160,8 @@ impl Mark {
             .extend((0..=9).chain([255]).filter(|len| ![0, 6].contains(len)).map(Mark::EnquiryLen));
         marks.extend(SORTS.map(Mark::EndsAt40));
         marks.extend(SORTS.map(Mark::LateBy));
-        marks.extend(STATES.map(Mark::LateInbox));
-        marks.extend(STATES.map(Mark::FullInbox));
+        marks.extend(State::ON.map(Mark::LateInbox));
+        marks.extend(State::ON.map(Mark::FullInbox));
         marks.extend(Mark::foreign());
         marks
     }

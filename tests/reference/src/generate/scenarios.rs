@@ -144,15 +144,6 @@ fn in_state(state: State) -> Draft {
     draft
 }
 
-const STATES: [State; 6] = [
-    State::Testing,
-    State::Reserved,
-    State::Permitted,
-    State::Leaving,
-    State::Resting,
-    State::Silent,
-];
-
 /// A frame that stands 40 ticks and one that stands 41, by state and by kind.
 fn inbox_ages() -> Vec<Vec<u8>> {
     let frames = [
@@ -161,7 +152,7 @@ fn inbox_ages() -> Vec<Vec<u8>> {
         Frame { header: 0x7FF, kind: ELEVEN_BIT, ..Frame::EMPTY },
     ];
     let mut scripts = Vec::new();
-    for (place, state) in STATES.into_iter().enumerate() {
+    for (place, state) in State::ON.into_iter().enumerate() {
         for (sort, frame) in frames.into_iter().enumerate() {
             if place == 0 || place % 3 == sort {
                 scripts.extend([40, 41].map(|ticks| inbox_age(state, frame, ticks)));
@@ -256,7 +247,7 @@ fn amr_age(ticks: usize, released: bool) -> Vec<u8> {
 
 /// A full inbox in every state: 5 for others' frames and foreign ones, not for its own.
 fn full_inboxes() -> Vec<Vec<u8>> {
-    STATES.into_iter().map(full_inbox).collect()
+    State::ON.into_iter().map(full_inbox).collect()
 }
 
 fn full_inbox(state: State) -> Vec<u8> {
@@ -378,7 +369,7 @@ fn nobody_delivers(ids: &[u64]) -> Vec<u8> {
 
 /// Power-on in every state, with frames in the inbox.
 fn powered_again() -> Vec<Vec<u8>> {
-    STATES
+    State::ON
         .into_iter()
         .map(|state| {
             let mut draft = in_state(state);
