@@ -1,7 +1,7 @@
 -- Laws of the lines' texts: digits, data, and how long a line can be.
 use mathlib.Core.Path.{_≡_, refl, ap, sym, _∙_}
 use Prim.Native.Nat.{ℕ, zero, suc, _+_, _-_, _*_, _/_, _%_, _^_, _≤_, _<_}
-use mathlib.Core.List.{List, [], _∷_, _++_}
+use mathlib.Core.List.{List, [], _∷_, _++_, append-assoc}
 use mathlib.Core.Bool.{Bool, true, false, cond}
 use native.Mathlib.Omega.{arith}
 use native.Mathlib.Nat.{add-zero, add-suc, pow-suc}
@@ -23,11 +23,6 @@ pub hex-none : {k : ℕ} (n : ℕ) → k ≡ 0 → hex k n ≡ []
 unfolding hex
 hex-none n e = rw e
 
-pub hex-more : (k n : ℕ) → (k ≡ 0 → ⊥) → hex k n ≡ hex (k - 1) (n / 16) ++ (digit (n % 16) ∷ [])
-unfolding hex
-hex-more zero n h = absurd (h refl)
-hex-more (suc k) n h = let e : suc k - 1 ≡ k = omega arith in rw e
-
 pub without-none : {k : ℕ} (n : ℕ) → k ≡ 0 → without k n ≡ n
 unfolding without
 without-none n e = rw e
@@ -45,6 +40,20 @@ length-hex (suc k) n = rw (length-append, length-hex k (n / 16)) (omega arith)
 hex-suc : (k n : ℕ) → hex (suc k) n ≡ hex k (n / 16) ++ (digit (n % 16) ∷ [])
 unfolding hex
 hex-suc k n = refl
+
+-- The last byte's two digits.
+pub hex-byte : (n : ℕ) → digit (n / 16 % 16) ∷ digit (n % 16) ∷ [] ≡ hex 2 n
+unfolding hex
+hex-byte n = refl
+
+-- Byte by byte, two digits each.
+pub hex-bytes : (k n : ℕ) → (k ≡ 0 → ⊥) → hex (2 * (k - 1)) (n / 256) ++ hex 2 n ≡ hex (2 * k) n
+hex-bytes zero n h = absurd (h refl)
+hex-bytes (suc k) n h =
+    let d : 2 * (suc k - 1) ≡ 2 * k = omega arith in
+    let e : 2 * suc k ≡ suc (suc (2 * k)) = omega arith in
+    let q : n / 256 ≡ n / 16 / 16 = omega arith in
+    rw (d, e, q, hex-suc (suc (2 * k)) n, hex-suc (2 * k) (n / 16), append-assoc, sym (hex-byte n))
 
 -- The first digits are those of the number without the last ones.
 pub take-hex : (j k n : ℕ) → take j (hex (j + k) n) ≡ hex j (without k n)
@@ -93,10 +102,31 @@ decimal-next : (n : ℕ) → 10 ≤ n → decimal n ≡ decimalUpTo n (n / 10) +
 unfolding decimalUpTo
 decimal-next n h = rw (le-ltb n 10 h)
 
-pub decimal-more : (n : ℕ) → 10 ≤ n → decimal n ≡ decimal (n / 10) ++ (digit (n % 10) ∷ [])
+decimal-more : (n : ℕ) → 10 ≤ n → decimal n ≡ decimal (n / 10) ++ (digit (n % 10) ∷ [])
 decimal-more zero h = absurd (omega arith)
 decimal-more (suc m) h =
     decimal-next (suc m) h ∙ ap (λ (l : List ℕ). l ++ (digit (suc m % 10) ∷ [])) (same-digits m (suc m / 10) (suc m / 10) (omega arith) (omega arith))
+
+-- The last two digits of n.
+abbrev pub lastTwo : ℕ → List ℕ
+lastTwo n = digit (n / 10 % 10) ∷ digit (n % 10) ∷ []
+
+pub decimal-two : (n : ℕ) → 10 ≤ n → n < 100 → lastTwo n ≡ decimal n
+decimal-two n low high =
+    let e : n / 10 % 10 ≡ n / 10 = omega arith in
+    rw e (ap (λ (l : List ℕ). l ++ (digit (n % 10) ∷ [])) (sym (decimal-small (n / 10) (omega arith))) ∙ sym (decimal-more n low))
+
+-- Two digits at a time.
+pub decimal-hundreds : (n : ℕ) → 100 ≤ n → decimal (n / 100) ++ lastTwo n ≡ decimal n
+decimal-hundreds n h =
+    let e : n / 100 ≡ n / 10 / 10 = omega arith in
+    rw (e, decimal-more n (omega arith), decimal-more (n / 10) (omega arith), append-assoc)
+
+-- Four digits at a time.
+pub decimal-myriads : (n : ℕ) → 10000 ≤ n → (decimal (n / 10000) ++ lastTwo (n / 100)) ++ lastTwo n ≡ decimal n
+decimal-myriads n h =
+    let e : n / 10000 ≡ n / 100 / 100 = omega arith in
+    rw e (ap (λ (l : List ℕ). l ++ lastTwo n) (decimal-hundreds (n / 100) (omega arith)) ∙ decimal-hundreds n (omega arith))
 
 -- HOW LONG A LINE CAN BE
 

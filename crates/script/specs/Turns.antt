@@ -9,12 +9,11 @@ use lib.Seq.{drop-drop}
 use Rattle.node.specs.Rules.{Answer, Value, refused}
 use Rattle.node.specs.Answers.{answerAs}
 use Rattle.node.specs.declared.answer.Answer as A
-use Rattle.table.specs.Rules.{limit, Places, start, Command, answer, step, run, kept}
+use Rattle.table.specs.Rules.{limit, start, Command, answer, step, run, kept}
 use Rattle.table.specs.Words.{lateOf, Fresh}
-use Rattle.table.specs.Capped.{cap, answer-cap}
 use Rattle.table.specs.Runs.{run-snoc}
 use Rattle.table.specs.Done.{Done, Does}
-use Rattle.table.specs.Lists.{Carried, begun, then, follows}
+use Rattle.table.specs.Lists.{Carried, begun, then, follows, told}
 use Rattle.script.specs.Rules.{Found, command, refusal, nothing, readOf, Script, next, stop, end, onward, scriptOf, listed, line, lines, lastLine, outputOf, output, Printed}
 use Rattle.script.specs.Answers.{commandAs, readAs, saidAs}
 use Rattle.script.specs.Sheet.{Sheet, sheet, write, Wrote, carried, printed}
@@ -124,10 +123,7 @@ module _ (script t out : List ℕ) (p : Progress) (ready : Ready script p) (rd :
     }
       where
         one : answerAs a ≡ answer (run start (g .commands)) (commandAs c)
-        one =
-            does (follows (g .made) .sound) .answered
-            ∙ ap (λ (T : Places). answer T (commandAs c)) (follows (g .made) .table)
-            ∙ answer-cap (run start (g .commands)) (commandAs c)
+        one = told (follows (g .made)) does
 
     pub turned-next : Does (commandAs c) t a t′ → saidAs said ≡ answerAs a
         → Wrote (sheet out (p .place)) (line (p .done + 1) b (saidAs said)) (sheet out′ to)

@@ -4,12 +4,12 @@ use node::frame::Frame;
 ghost use mathlib.Core.Path.{_≡_};
 ghost use mathlib.Core.Bool.{not};
 ghost use mathlib.Core.List.{[], _∷_};
-ghost use Prim.Native.Nat.{_<_};
+ghost use Prim.Native.Nat.{_<_, _*_};
 ghost use Rattle.node.specs.Answers.{answerAs};
 ghost use Rattle.script.specs.Rules.{digit as digitOf, hex, decimal, answerText, dataText, line, lastLine};
 ghost use Rattle.script.specs.Answers.{saidAs};
 ghost use Rattle.script.specs.Sheet.{sheet, Wrote};
-ghost use Rattle.script.specs.Text.{without};
+ghost use Rattle.script.specs.Text.{without, lastTwo};
 
 // What a line says of its command: the table's refusals 1 to 9, and the script's own, 10 and 11, are numbers here.
 pub(crate) enum Said {
@@ -57,25 +57,73 @@ fn digit(n: u64) -> u8
     if n < 10 { 48 + n as u8 } else { 55 + n as u8 }
 }
 
-// The last digits of n in hexadecimal, as many as asked.
-pub(crate) fn put_hex(out: &mut [u8], at: usize, digits: usize, n: u64) -> usize
-    ensures { λ r. ⌜ Wrote (sheet (now (out .entry)) at) (hex digits n) (sheet (now (out .exit)) r) ⌝ }
+// Two digits, the higher first.
+fn put_pair(out: &mut [u8], at: usize, high: u64, low: u64) -> usize
+    requires { ⌜ (high < 16) × (low < 16) ⌝ }
+    ensures { λ r. ⌜ Wrote (sheet (now (out .entry)) at) (digitOf high ∷ digitOf low ∷ []) (sheet (now (out .exit)) r) ⌝ }
 {
-    if digits == 0 {
-        return at;
-    }
-    let next = put_hex(out, at, digits - 1, n / 16);
-    put(out, next, digit(n % 16))
+    let next = put(out, at, digit(high));
+    put(out, next, digit(low))
 }
 
-pub(crate) fn put_decimal(out: &mut [u8], at: usize, n: u64) -> usize
+// The last byte of n in hexadecimal.
+fn put_byte(out: &mut [u8], at: usize, n: u64) -> usize
+    ensures { λ r. ⌜ Wrote (sheet (now (out .entry)) at) (hex 2 n) (sheet (now (out .exit)) r) ⌝ }
+{
+    put_pair(out, at, n / 16 % 16, n % 16)
+}
+
+// The last bytes of n in hexadecimal, as many as asked.
+pub(crate) fn put_hex(out: &mut [u8], at: usize, bytes: usize, n: u64) -> usize
+    ensures { λ r. ⌜ Wrote (sheet (now (out .entry)) at) (hex (2 * bytes) n) (sheet (now (out .exit)) r) ⌝ }
+{
+    if bytes == 0 {
+        return at;
+    }
+    let next = put_hex(out, at, bytes - 1, n / 256);
+    put_byte(out, next, n)
+}
+
+// The last two decimal digits of n.
+fn put_two(out: &mut [u8], at: usize, n: u64) -> usize
+    ensures { λ r. ⌜ Wrote (sheet (now (out .entry)) at) (lastTwo n) (sheet (now (out .exit)) r) ⌝ }
+{
+    put_pair(out, at, n / 10 % 10, n % 10)
+}
+
+// A number of one or two digits.
+fn put_below_100(out: &mut [u8], at: usize, n: u64) -> usize
+    requires { ⌜ n < 100 ⌝ }
     ensures { λ r. ⌜ Wrote (sheet (now (out .entry)) at) (decimal n) (sheet (now (out .exit)) r) ⌝ }
 {
     if n < 10 {
         return put(out, at, digit(n));
     }
-    let next = put_decimal(out, at, n / 10);
-    put(out, next, digit(n % 10))
+    put_two(out, at, n)
+}
+
+// A number of up to four digits.
+fn put_below_10000(out: &mut [u8], at: usize, n: u64) -> usize
+    requires { ⌜ n < 10000 ⌝ }
+    ensures { λ r. ⌜ Wrote (sheet (now (out .entry)) at) (decimal n) (sheet (now (out .exit)) r) ⌝ }
+{
+    if n < 100 {
+        return put_below_100(out, at, n);
+    }
+    let next = put_below_100(out, at, n / 100);
+    put_two(out, next, n)
+}
+
+// Four digits at a time.
+pub(crate) fn put_decimal(out: &mut [u8], at: usize, n: u64) -> usize
+    ensures { λ r. ⌜ Wrote (sheet (now (out .entry)) at) (decimal n) (sheet (now (out .exit)) r) ⌝ }
+{
+    if n < 10000 {
+        return put_below_10000(out, at, n);
+    }
+    let next = put_decimal(out, at, n / 10000);
+    let after = put_two(out, next, n / 100);
+    put_two(out, after, n)
 }
 
 // n without its last hexadecimal digits.
@@ -97,10 +145,10 @@ fn put_data(out: &mut [u8], at: usize, len: u8, bytes: u64) -> usize
     }
     let next = put(out, at, b' ');
     if len < 8 {
-        let digits = 2 * (len as usize);
-        return put_hex(out, next, digits, shortened(bytes, 16 - digits));
+        let count = len as usize;
+        return put_hex(out, next, count, shortened(bytes, 16 - 2 * count));
     }
-    put_hex(out, next, 16, bytes)
+    put_hex(out, next, 8, bytes)
 }
 
 pub(crate) fn put_answer(out: &mut [u8], at: usize, said: Said) -> usize
@@ -110,7 +158,7 @@ pub(crate) fn put_answer(out: &mut [u8], at: usize, said: Said) -> usize
         Said::Accepted => put_all(out, at, b"ok"),
         Said::Sent(f) => {
             let next = put_all(out, at, b"ok ");
-            let after = put_hex(out, next, 8, f.header as u64);
+            let after = put_hex(out, next, 4, f.header as u64);
             put_data(out, after, f.len, f.bytes)
         }
         Said::Refused(n) => {
@@ -126,7 +174,7 @@ pub(crate) fn put_line(out: &mut [u8], at: usize, count: u64, byte: u8, said: Sa
 {
     let a = put_decimal(out, at, count);
     let b = put(out, a, b' ');
-    let c = put_hex(out, b, 2, byte as u64);
+    let c = put_byte(out, b, byte as u64);
     let d = put(out, c, b' ');
     let e = put_answer(out, d, said);
     put(out, e, b'\n')

@@ -1,9 +1,9 @@
--- Inboxes in the words: what a push, a take and a tick do to a ring.
+-- Inboxes in the words: what a push and a take do to a ring, and its first frame's age.
 use mathlib.Core.Path.{_≡_, refl, sym, ap, _∙_}
 use mathlib.Core.Logic.{_≢_, _⊎_, ⊎-elim}
 use Prim.Native.Nat.{ℕ, zero, suc, _+_, _-_, _*_, _/_, _%_, _<_, _≤_}
-use mathlib.Core.Bool.{Bool, true, false, cond, not, _||_}
-use mathlib.Core.List.{List, [], _∷_, _++_, map, map-append}
+use mathlib.Core.Bool.{Bool, true, false, true≢false, false≢true, cond, not}
+use mathlib.Core.List.{List, [], _∷_, _++_}
 use native.Mathlib.Numerals.{add-one}
 use native.Mathlib.Omega.{arith}
 use lib.Dec.{ltb, leb, eqb}
@@ -11,29 +11,34 @@ use borrow.Author.Tests.{lt-ltb, le-ltb, lt-leb, le-leb, ne-eqb, eqb-false}
 use lib.ListN.{length, getD, set, length-set}
 use lib.Seq.{getD-set-same, getD-set-other}
 use Rattle.node.specs.declared.frame.Frame.{Frame}
-use Rattle.table.specs.Rules.{places, inboxRoom, limit, Item, item, place, hasRoom, isEmpty, anyOld}
+use Rattle.table.specs.Rules.{places, inboxRoom, limit, Item, item, place, hasRoom, isEmpty}
 use Rattle.table.specs.Words.{
   block,
   words,
   countAt,
   firstAt,
-  ageAt,
+  stampAt,
   slot,
+  clockAt,
   frameFrom,
-  ageIn,
+  round,
+  stampIn,
+  since,
   nodeAt,
+  clockOf,
   itemFrom,
   itemAt,
   items,
   inbox,
+  ageOf,
   placeAt,
   Held,
   At,
 }
-use Rattle.table.specs.Parts.{Taken, pushed, aged, agedWord, Aged}
-use Rattle.table.specs.Chain.{lt-or-le, item-ext, items-ext, node-ext, at-none}
+use Rattle.table.specs.Parts.{Taken, pushed, firstOld}
+use Rattle.table.specs.Chain.{lt-or-le, item-ext, items-ext, node-ext, age-ext, at-none}
 use Rattle.table.specs.Laws.{place-eq}
-use Rattle.table.proofs.Packed.{aged-item}
+use Rattle.table.proofs.Stamps.{since-now}
 
 -- how long an inbox is
 
@@ -88,42 +93,35 @@ items-snoc t k s (suc n) =
 
 module _ (t : List ℕ) (k : ℕ) (h : Held t) (hk : k < places) where
   abbrev cleared : List ℕ
-  cleared = set (set (set t (countAt k) 0) (firstAt k) 0) (ageAt k) 0
+  cleared = set (set t (countAt k) 0) (firstAt k) 0
 
-  cleared-other : (q : ℕ) → q ≢ countAt k → q ≢ firstAt k → q ≢ ageAt k → getD cleared q 0 ≡ getD t q 0
-  cleared-other q a b c =
-      getD-set-other (set (set t (countAt k) 0) (firstAt k) 0) (ageAt k) q 0 0 c
-      ∙ getD-set-other (set t (countAt k) 0) (firstAt k) q 0 0 b
-      ∙ getD-set-other t (countAt k) q 0 0 a
+  cleared-other : (q : ℕ) → q ≢ countAt k → q ≢ firstAt k → getD cleared q 0 ≡ getD t q 0
+  cleared-other q a b = getD-set-other (set t (countAt k) 0) (firstAt k) q 0 0 b ∙ getD-set-other t (countAt k) q 0 0 a
 
   cleared-count : getD cleared (countAt k) 0 ≡ 0
   cleared-count =
-      getD-set-other (set (set t (countAt k) 0) (firstAt k) 0) (ageAt k) (countAt k) 0 0 (omega arith)
-      ∙ getD-set-other (set t (countAt k) 0) (firstAt k) (countAt k) 0 0 (omega arith)
+      getD-set-other (set t (countAt k) 0) (firstAt k) (countAt k) 0 0 (omega arith)
       ∙ getD-set-same t (countAt k) 0 0 (omega (arith, h .long))
 
   cleared-first : getD cleared (firstAt k) 0 ≡ 0
   cleared-first =
       let l : firstAt k < length (set t (countAt k) 0) = simp length-set (omega (arith, h .long)) in
-      getD-set-other (set (set t (countAt k) 0) (firstAt k) 0) (ageAt k) (firstAt k) 0 0 (omega arith)
-      ∙ getD-set-same (set t (countAt k) 0) (firstAt k) 0 0 l
+      getD-set-same (set t (countAt k) 0) (firstAt k) 0 0 l
 
-  cleared-age : getD cleared (ageAt k) 0 ≡ 0
-  cleared-age =
-      let l : ageAt k < length (set (set t (countAt k) 0) (firstAt k) 0) = simp length-set (omega (arith, h .long)) in
-      getD-set-same (set (set t (countAt k) 0) (firstAt k) 0) (ageAt k) 0 0 l
+  cleared-node : nodeAt cleared k ≡ nodeAt t k
+  cleared-node = node-ext t cleared k (λ q a b. cleared-other q (omega arith) (omega arith))
 
-  pub clear-done : At t k (place (nodeAt t k) [] 0) (set (set (set t (countAt k) 0) (firstAt k) 0) (ageAt k) 0)
+  pub clear-done : At t k (place (nodeAt t k) [] (ageOf t k)) (set (set t (countAt k) 0) (firstAt k) 0)
   clear-done = record {
+    inside = hk;
     long = simp length-set;
-    below = λ q l. cleared-other q (omega arith) (omega arith) (omega arith);
-    above = λ q l. cleared-other q (omega arith) (omega arith) (omega arith);
+    below = λ q l. cleared-other q (omega arith) (omega arith);
+    above = λ q l. cleared-other q (omega arith) (omega arith);
     few = omega (arith, cleared-count);
     ring = omega (arith, cleared-first);
-    this = place-eq
-        (node-ext t cleared k (λ q a b. cleared-other q (omega arith) (omega arith) (omega arith)))
+    this = place-eq cleared-node
         (inbox-none cleared k cleared-count)
-        cleared-age;
+        (age-ext t cleared k cleared-node (cleared-other clockAt (omega arith) (omega arith)) (cleared-other (stampAt k) (omega arith) (omega arith)));
   }
 
 -- the first frame leaves
@@ -151,6 +149,12 @@ module _ (t : List ℕ) (k n f q : ℕ) (r : Frame) (h : Held t) (hk : k < place
       let l : firstAt k < length (set t (countAt k) (n - 1)) = simp length-set (omega (arith, h .long)) in
       getD-set-same (set t (countAt k) (n - 1)) (firstAt k) ((f + 1) % inboxRoom) 0 l
 
+  took-clock : getD took clockAt 0 ≡ getD t clockAt 0
+  took-clock = took-other clockAt (omega arith) (omega arith)
+
+  took-node : nodeAt took k ≡ nodeAt t k
+  took-node = node-ext t took k (λ q a b. took-other q (omega arith) (omega arith))
+
   -- the ring starts one slot further on
   next : (f + 1) % inboxRoom % inboxRoom ≡ (f + 1) % inboxRoom
   next = omega arith
@@ -160,7 +164,7 @@ module _ (t : List ℕ) (k n f q : ℕ) (r : Frame) (h : Held t) (hk : k < place
   now-box =
       (λ i. items took k (took-first i) (took-count i))
       ∙ items-ext t took k ((f + 1) % inboxRoom) (n - 1)
-      (λ x a b. item-ext t took (slot k x) (took-other (slot k x) (omega arith) (omega arith)) (took-other (slot k x + 1) (omega arith) (omega arith)))
+      (λ x a b. item-ext t took (slot k x) took-clock (took-other (slot k x) (omega arith) (omega arith)) (took-other (slot k x + 1) (omega arith) (omega arith)))
       ∙ items-round t k ((f + 1) % inboxRoom) (f + 1) (n - 1) next
 
   was-box : inbox t k ≡ itemAt t (slot k f) ∷ items t k (f + 1) (n - 1)
@@ -179,22 +183,21 @@ module _ (t : List ℕ) (k n f q : ℕ) (r : Frame) (h : Held t) (hk : k < place
     age = itemAt t (slot k f) .age;
     first = was-box ∙ (λ i. item (sym its-frame i) (itemAt t (slot k f) .age) ∷ sym now-box i);
     rest = record {
+      inside = hk;
       long = simp length-set;
       below = λ q l. took-other q (omega arith) (omega arith);
       above = λ q l. took-other q (omega arith) (omega arith);
       few = omega (arith, took-count, h .few k hk);
       ring = omega (arith, took-first);
-      this = place-eq
-          (node-ext t took k (λ q a b. took-other q (omega arith) (omega arith)))
-          refl
-          (took-other (ageAt k) (omega arith) (omega arith));
+      this = place-eq took-node refl (age-ext t took k took-node took-clock (took-other (stampAt k) (omega arith) (omega arith)));
     };
   }
 
 -- a frame comes
 
-module _ (t : List ℕ) (k n s q w : ℕ) (f : Frame) (h : Held t) (hk : k < places) (en : n ≡ getD t (countAt k) 0) (room : n < inboxRoom)
-    (es : s ≡ getD t (firstAt k) 0 % inboxRoom) (eq : q ≡ slot k (s + n)) (ew : frameFrom w (f .bytes) ≡ f) (hw : ageIn w ≡ 0) where
+module _ (t : List ℕ) (k n s q c w : ℕ) (f : Frame) (h : Held t) (hk : k < places) (en : n ≡ getD t (countAt k) 0) (room : n < inboxRoom)
+    (es : s ≡ getD t (firstAt k) 0 % inboxRoom) (eq : q ≡ slot k (s + n)) (ec : c ≡ clockOf t)
+    (ew : (frameFrom w (f .bytes) ≡ f) × (stampIn w ≡ c % round)) where
   abbrev t₁ : List ℕ
   t₁ = set t q w
 
@@ -226,9 +229,19 @@ module _ (t : List ℕ) (k n s q w : ℕ) (f : Frame) (h : Held t) (hk : k < pla
       let l : q + 1 < length t₁ = simp length-set (omega (arith, h .long)) in
       getD-set-other t₂ (countAt k) (q + 1) (n + 1) 0 (omega arith) ∙ getD-set-same t₁ (q + 1) (f .bytes) 0 l
 
+  clock₃ : getD t₃ clockAt 0 ≡ getD t clockAt 0
+  clock₃ = other₃ clockAt (omega arith) (omega arith) (omega arith)
+
+  node₃ : nodeAt t₃ k ≡ nodeAt t k
+  node₃ = node-ext t t₃ k (λ p a b. other₃ p (omega arith) (omega arith) (omega arith))
+
+  -- the frame comes now
+  young₃ : since (clockOf t) (stampIn w) ≡ 0
+  young₃ = since-now (clockOf t) (stampIn w) (ap (λ (x : ℕ). x % round) (ew .1 ∙ ap (λ (x : ℕ). x % round) ec) ∙ omega arith)
+
   item₃ : itemAt t₃ q ≡ item f 0
   unfolding itemAt
-  item₃ = (λ i. itemFrom (first₃ i) (second₃ i)) ∙ (λ i. item (ew i) (hw i))
+  item₃ = (λ i. itemFrom (clock₃ i % round) (first₃ i) (second₃ i)) ∙ (λ i. item (ew .0 i) (young₃ i))
 
   box₃ : inbox t₃ k ≡ inbox t k ++ item f 0 ∷ []
   unfolding inbox
@@ -240,7 +253,7 @@ module _ (t : List ℕ) (k n s q w : ℕ) (f : Frame) (h : Held t) (hk : k < pla
       ∙ items-snoc t₃ k s n
       ∙ (λ i. items-ext t t₃ k s n
       (λ x a b. let z = apart x (s + n) b (omega arith) in
-      item-ext t t₃ (slot k x) (other₃ (slot k x) (omega arith) (omega arith) (omega arith)) (other₃ (slot k x + 1) (omega arith) (omega arith) (omega arith))) i
+      item-ext t t₃ (slot k x) clock₃ (other₃ (slot k x) (omega arith) (omega arith) (omega arith)) (other₃ (slot k x + 1) (omega arith) (omega arith) (omega arith))) i
       ++ (ap (itemAt t₃) (sym eq) ∙ item₃) i ∷ [])
       ∙ (λ i. (sym (items-round t k (getD t (firstAt k) 0) s n d) ∙ ap (items t k (getD t (firstAt k) 0)) en) i ++ item f 0 ∷ [])
 
@@ -250,15 +263,15 @@ module _ (t : List ℕ) (k n s q w : ℕ) (f : Frame) (h : Held t) (hk : k < pla
   pub push-room : At t k (pushed f (placeAt t k)) (set (set (set t q w) (q + 1) (f .bytes)) (countAt k) (n + 1))
   unfolding pushed
   push-room = record {
+    inside = hk;
     long = simp length-set;
     below = λ p l. other₃ p (omega arith) (omega arith) (omega arith);
     above = λ p l. other₃ p (omega arith) (omega arith) (omega arith);
     few = omega (arith, count₃);
     ring = omega (arith, other₃ (firstAt k) (omega arith) (omega arith) (omega arith), h .ring k hk);
-    this = place-eq
-        (node-ext t t₃ k (λ p a b. other₃ p (omega arith) (omega arith) (omega arith)))
+    this = place-eq node₃
         (box₃ ∙ sym (ap (λ (b : Bool). cond b (inbox t k ++ item f 0 ∷ []) (inbox t k)) fits))
-        (other₃ (ageAt k) (omega arith) (omega arith) (omega arith));
+        (age-ext t t₃ k node₃ clock₃ (other₃ (stampAt k) (omega arith) (omega arith) (omega arith)));
   }
 
 pub push-full : (t : List ℕ) (k : ℕ) (f : Frame) → Held t → k < places → inboxRoom ≤ getD t (countAt k) 0 → At t k (pushed f (placeAt t k)) t
@@ -267,101 +280,18 @@ push-full t k f h hk full =
     let e : hasRoom (placeAt t k) ≡ false = le-ltb (length (inbox t k)) inboxRoom (omega (arith, length-inbox t k)) in
     at-none h hk (place-eq refl (sym (ap (λ (b : Bool). cond b (inbox t k ++ item f 0 ∷ []) (inbox t k)) e)) refl)
 
--- a tick
+-- the first frame's age
 
-or-false : (b : Bool) → (b || false) ≡ b
-or-false true = refl
-or-false false = refl
+pub first-none : (xs : List Item) → isEmpty xs ≡ true → false ≡ firstOld xs
+first-none [] e = refl
+first-none (x ∷ xs) e = absurd (false≢true e)
 
-or-assoc : (a b c : Bool) → (a || (b || c)) ≡ ((a || b) || c)
-or-assoc true b c = refl
-or-assoc false b c = refl
-
-any-snoc : (l : List Item) (x : Item) → anyOld limit limit (map aged (l ++ x ∷ [])) ≡ (anyOld limit limit (map aged l) || ltb limit (aged x .age))
-any-snoc [] x = or-false (ltb limit (aged x .age))
-any-snoc (y ∷ l) x =
-    ap (λ (b : Bool). ltb limit (aged y .age) || b) (any-snoc l x)
-    ∙ or-assoc (ltb limit (aged y .age)) (anyOld limit limit (map aged l)) (ltb limit (aged x .age))
-
--- j frames from slot s of place k on are a tick older, and o says whether one is then above the limit
-pub record Older (t₀ : List ℕ) (k s j : ℕ) (t : List ℕ) (o : Bool) : Type 0 where
-  pub long : length t ≡ length t₀
-  pub same : (q : ℕ) → ((x : ℕ) → s ≤ x → x < s + j → q ≢ slot k x) → getD t q 0 ≡ getD t₀ q 0
-  pub done : items t k s j ≡ map aged (items t₀ k s j)
-  pub old : o ≡ anyOld limit limit (map aged (items t₀ k s j))
-
-pub older-none : (t₀ : List ℕ) (k s : ℕ) → Older t₀ k s 0 t₀ false
-older-none t₀ k s = record { long = refl; same = λ q e. refl; done = refl; old = refl }
-
-module _ (t₀ : List ℕ) (k s j q : ℕ) (t : List ℕ) (o : Bool) (u : ℕ) (w o′ : Bool) (hk : k < places) (hj : j < inboxRoom) (l : length t₀ ≡ words)
-    (m : Older t₀ k s j t o) (eq : q ≡ slot k (s + j)) (eu : u ≡ agedWord (getD t q 0)) (ew : w ≡ ltb limit (ageIn u)) (eo : o′ ≡ (o || w)) where
-  abbrev t″ : List ℕ
-  t″ = set t q u
-
-  -- the slot of frame j has not been touched before, its second word never
-  fresh : (x : ℕ) → s ≤ x → x < s + j → q ≢ slot k x
-  fresh x a b = let z = apart x (s + j) b (omega arith) in omega arith
-
-  here : itemAt t″ q ≡ aged (itemAt t q)
-  unfolding itemAt
-  here =
-      let r : q < length t = omega (arith, m .long) in
-      (λ i. itemFrom ((getD-set-same t q u 0 r ∙ eu) i) (getD-set-other t q (q + 1) u 0 (omega arith) i))
-      ∙ aged-item (getD t q 0) (getD t (q + 1) 0)
-
-  there : itemAt t q ≡ itemAt t₀ q
-  there = item-ext t₀ t q (m .same q fresh) (m .same (q + 1) (λ x a b. omega arith))
-
-  its-age : w ≡ ltb limit (aged (itemAt t₀ q) .age)
-  unfolding itemAt
-  its-age =
-      ew
-      ∙ ap (λ (z : ℕ). ltb limit (ageIn z)) eu
-      ∙ ap (λ (x : Item). ltb limit (x .age)) (aged-item (getD t q 0) (getD t (q + 1) 0))
-      ∙ ap (λ (x : Item). ltb limit (aged x .age)) there
-
-  more : (t : List ℕ) → items t k s (j + 1) ≡ items t k s j ++ itemAt t q ∷ []
-  more t = ap (items t k s) (add-one j) ∙ items-snoc t k s j ∙ ap (λ (p : ℕ). items t k s j ++ itemAt t p ∷ []) (sym eq)
-
-  kept : items t″ k s j ≡ items t k s j
-  kept =
-      items-ext t t″ k s j
-      (λ x a b. let z = fresh x a b in
-      item-ext t t″ (slot k x) (getD-set-other t q (slot k x) u 0 (omega arith)) (getD-set-other t q (slot k x + 1) u 0 (omega arith)))
-
-  pub older-more : Older t₀ k s (j + 1) (set t q u) o′
-  older-more = record {
-    long = length-set t q u ∙ m .long;
-    same = λ p e. getD-set-other t q p u 0 (λ (z : p ≡ q). e (s + j) (omega arith) (omega arith) (z ∙ eq)) ∙ m .same p (λ x a b. e x a (omega arith));
-    done = more t″
-        ∙ (λ i. (kept ∙ m .done) i ++ (here ∙ ap aged there) i ∷ [])
-        ∙ sym (ap (map aged) (more t₀) ∙ map-append aged (items t₀ k s j) (itemAt t₀ q ∷ []));
-    old = eo
-        ∙ (λ i. m .old i || its-age i)
-        ∙ sym (ap (λ (l : List Item). anyOld limit limit (map aged l)) (more t₀) ∙ any-snoc (items t₀ k s j) (itemAt t₀ q));
-  }
-
-pub older-done : (t : List ℕ) (k s j : ℕ) (t′ : List ℕ) (o : Bool) → Held t → k < places → s ≡ getD t (firstAt k) 0 % inboxRoom → j ≡ getD t (countAt k) 0
-    → Older t k s j t′ o → Aged t k o t′
-unfolding inbox
-older-done t k s j t′ o h hk es ej m =
-    let same : (q : ℕ) → q < block * k + 16 → getD t′ q 0 ≡ getD t q 0 = λ q l. m .same q (λ x a b. omega arith) in
-    let d : getD t (firstAt k) 0 % inboxRoom ≡ s % inboxRoom = omega arith in
-    let c : getD t′ (countAt k) 0 ≡ j = same (countAt k) (omega arith) ∙ sym ej in
-    let f : getD t′ (firstAt k) 0 ≡ getD t (firstAt k) 0 = same (firstAt k) (omega arith) in
-    let was : items t k s j ≡ items t k (getD t (firstAt k) 0) (getD t (countAt k) 0) =
-    sym (items-round t k (getD t (firstAt k) 0) s j d) ∙ ap (items t k (getD t (firstAt k) 0)) ej in
-    record {
-      rest = record {
-        long = m .long;
-        below = λ q l. same q (omega arith);
-        above = λ q l. m .same q (λ x a b. omega arith);
-        few = omega (arith, h .few k hk);
-        ring = omega (arith, h .ring k hk);
-        this = place-eq
-            (node-ext t t′ k (λ q a b. same q (omega arith)))
-            ((λ i. items t′ k (f i) (c i)) ∙ items-round t′ k (getD t (firstAt k) 0) s j d ∙ m .done ∙ ap (map aged) was)
-            (same (ageAt k) (omega arith));
-      };
-      old = m .old ∙ ap (λ (l : List Item). anyOld limit limit (map aged l)) was;
-    }
+pub first-some : (t : List ℕ) (k : ℕ) → isEmpty (inbox t k) ≡ false
+    → ltb limit (since (clockOf t) (stampIn (getD t (slot k (getD t (firstAt k) 0)) 0))) ≡ firstOld (inbox t k)
+unfolding inbox itemAt
+first-some t k e = go (getD t (countAt k) 0) e
+  where
+    go : (n : ℕ) → isEmpty (items t k (getD t (firstAt k) 0) n) ≡ false
+        → ltb limit (since (clockOf t) (stampIn (getD t (slot k (getD t (firstAt k) 0)) 0))) ≡ firstOld (items t k (getD t (firstAt k) 0) n)
+    go zero e = absurd (true≢false e)
+    go (suc n) e = refl

@@ -31,7 +31,7 @@ each-more g t₀ i t t′ t″ hi h e a =
           (λ (ne : k ≢ i). at-other a k ne ∙ h .done k (omega arith))
           (eq-or-ne k i);
       left = λ k l r. at-other a k (omega arith) ∙ h .left k l (omega arith);
-      late = at-late hi a ∙ h .late;
+      late = at-late a ∙ h .late;
     })
 
 -- A FRAME TO EACH

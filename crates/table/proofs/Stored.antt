@@ -1,22 +1,28 @@
--- What stores to the words of a place do: its node, its age, the late word.
+-- What stores do to the words: a node with its stamp, the late word, the clock.
 use mathlib.Core.Path.{_≡_, refl, sym, ap, _∙_}
 use mathlib.Core.Logic.{_≢_}
-use Prim.Native.Nat.{ℕ, _+_, _*_, _<_, _≤_}
-use mathlib.Core.List.{List}
+use Prim.Native.Nat.{ℕ, zero, suc, _+_, _*_, _%_, _<_, _≤_}
+use mathlib.Core.List.{List, [], _∷_, map}
 use native.Mathlib.Omega.{arith}
 use lib.Dec.{eqb}
 use lib.ListN.{length, getD, set, length-set, replicate, length-replicate, getD-replicate}
 use lib.Seq.{getD-set-same, getD-set-other}
 use Rattle.node.specs.Rules.{offNode}
 use Rattle.node.specs.declared.state.Node.{Node}
-use Rattle.table.specs.Rules.{places, place, blank, start}
+use Rattle.table.specs.Rules.{places, item, place, blank, start, timedOf}
 use Rattle.table.specs.Words.{
   block,
   words,
   countAt,
   firstAt,
-  ageAt,
+  stampAt,
+  slot,
   lateAt,
+  clockAt,
+  frameFrom,
+  round,
+  stampIn,
+  since,
   phaseAt,
   hostAt,
   hostBytes,
@@ -24,7 +30,12 @@ use Rattle.table.specs.Words.{
   nodeFrom,
   StateOf,
   nodeAt,
+  clockOf,
+  itemFrom,
+  itemAt,
+  items,
   inbox,
+  timedAge,
   placeAt,
   Held,
   At,
@@ -32,9 +43,11 @@ use Rattle.table.specs.Words.{
   Fresh,
   Latched,
 }
+use Rattle.table.specs.Parts.{later, laterItem, laterPlace, Advanced}
 use Rattle.table.specs.Chain.{place-ext, node-ext, inbox-ext, view-is}
 use Rattle.table.specs.Laws.{place-eq}
 use Rattle.table.proofs.Rings.{inbox-none}
+use Rattle.table.proofs.Stamps.{since-later, timed-later}
 
 -- the node comes back from its five words
 node-back : (n : Node) (w h d : ℕ) → StateOf n w → hostAt h (hostBytes (n .waiting .host)) ≡ n .waiting .host → d ≡ hostBytes (n .waiting .host)
@@ -120,36 +133,96 @@ node-stored t k n w h d l hk s eh ed =
           ∙ node-back n w h d s eh ed;
     }
 
--- the node and the age of what waits are stored
-pub put-at : (t t₁ : List ℕ) (k : ℕ) (n : Node) (g : ℕ) → k < places → Held t → NodeStored t k n t₁ → At t k (place n (inbox t k) g) (set t₁ (ageAt k) g)
-put-at t t₁ k n g hk h st =
-    let l : ageAt k < length t₁ = omega (arith, st .long, h .long) in
-    let t′ : List ℕ = set t₁ (ageAt k) g in
-    let past : (q : ℕ) → block * k + 5 ≤ q → q ≢ ageAt k → getD t′ q 0 ≡ getD t q 0 = λ q a ne. getD-set-other t₁ (ageAt k) q g 0 ne ∙ st .above q a in
+-- the node and the stamp of what waits are stored
+pub put-at : (t t₁ : List ℕ) (k : ℕ) (n : Node) (s : ℕ) → k < places → Held t → NodeStored t k n t₁
+    → At t k (place n (inbox t k) (timedAge (timedOf n) (since (clockOf t) s))) (set t₁ (stampAt k) s)
+put-at t t₁ k n s hk h st =
+    let l : stampAt k < length t₁ = omega (arith, st .long, h .long) in
+    let t′ : List ℕ = set t₁ (stampAt k) s in
+    let past : (q : ℕ) → block * k + 5 ≤ q → q ≢ stampAt k → getD t′ q 0 ≡ getD t q 0 = λ q a ne. getD-set-other t₁ (stampAt k) q s 0 ne ∙ st .above q a in
+    let c : getD t′ clockAt 0 ≡ getD t clockAt 0 = past clockAt (omega arith) (omega arith) in
+    let m : nodeAt t′ k ≡ n = node-ext t₁ t′ k (λ q a b. getD-set-other t₁ (stampAt k) q s 0 (omega arith)) ∙ st .this in
     record {
-      long = length-set t₁ (ageAt k) g ∙ st .long;
-      below = λ q a. getD-set-other t₁ (ageAt k) q g 0 (omega arith) ∙ st .below q a;
+      inside = hk;
+      long = length-set t₁ (stampAt k) s ∙ st .long;
+      below = λ q a. getD-set-other t₁ (stampAt k) q s 0 (omega arith) ∙ st .below q a;
       above = λ q a. past q (omega arith) (omega arith);
       few = omega (arith, past (countAt k) (omega arith) (omega arith), h .few k hk);
       ring = omega (arith, past (firstAt k) (omega arith) (omega arith), h .ring k hk);
-      this = place-eq
-          (node-ext t₁ t′ k (λ q a b. getD-set-other t₁ (ageAt k) q g 0 (omega arith)) ∙ st .this)
-          (inbox-ext t t′ k (λ q a b ne. past q (omega arith) ne))
-          (getD-set-same t₁ (ageAt k) g 0 l);
+      this = place-eq m
+          (inbox-ext t t′ k c (λ q a b ne. past q (omega arith) ne))
+          (λ i. timedAge (timedOf (m i)) (since (c i % round) (getD-set-same t₁ (stampAt k) s 0 l i)));
     }
+
+-- A WORD AFTER THE PLACES
+
+module _ (t : List ℕ) (j x : ℕ) (h : Held t) (past : lateAt ≤ j) where
+  beyond : (q : ℕ) → q ≢ j → getD (set t j x) q 0 ≡ getD t q 0
+  beyond q ne = getD-set-other t j q x 0 ne
+
+  beyond-held : Held (set t j x)
+  beyond-held = record {
+    long = length-set t j x ∙ h .long;
+    few = λ k hk. omega (arith, beyond (countAt k) (omega arith), h .few k hk);
+    ring = λ k hk. omega (arith, beyond (firstAt k) (omega arith), h .ring k hk);
+  }
 
 pub latched : (t : List ℕ) → Held t → Latched t (set t lateAt 1)
 latched t h =
-    let other : (q : ℕ) → q ≢ lateAt → getD (set t lateAt 1) q 0 ≡ getD t q 0 = λ q ne. getD-set-other t lateAt q 1 0 ne in
+    let other = beyond t lateAt 1 h (omega arith) in
     record {
-      held = record {
-        long = length-set t lateAt 1 ∙ h .long;
-        few = λ k hk. omega (arith, other (countAt k) (omega arith), h .few k hk);
-        ring = λ k hk. omega (arith, other (firstAt k) (omega arith), h .ring k hk);
-      };
+      held = beyond-held t lateAt 1 h (omega arith);
       late = ap (λ (x : ℕ). eqb x 1) (getD-set-same t lateAt 1 0 (omega (arith, h .long)));
-      same = λ k hk. place-ext t (set t lateAt 1) k (λ q a b. other q (omega arith));
+      same = λ k hk. place-ext t (set t lateAt 1) k (other clockAt (omega arith)) (λ q a b. other q (omega arith));
     }
+
+-- the clock goes on
+module _ (t : List ℕ) (h : Held t) where
+  abbrev onward : List ℕ
+  onward = set t clockAt (getD t clockAt 0 % round + 1)
+
+  beside : (q : ℕ) → q ≢ clockAt → getD onward q 0 ≡ getD t q 0
+  beside = beyond t clockAt (getD t clockAt 0 % round + 1) h (omega arith)
+
+  clock-on : clockOf onward ≡ (getD t clockAt 0 % round + 1) % round
+  clock-on = ap (λ (x : ℕ). x % round) (getD-set-same t clockAt (getD t clockAt 0 % round + 1) 0 (omega (arith, h .long)))
+
+  since-on : (s : ℕ) → since (clockOf onward) s ≡ later (since (clockOf t) s)
+  since-on s = ap (λ (c : ℕ). since c s) clock-on ∙ since-later (getD t clockAt 0) s
+
+  item-on : (q : ℕ) → q + 1 < clockAt → itemAt onward q ≡ laterItem (itemAt t q)
+  unfolding itemAt
+  item-on q l =
+      (λ i. itemFrom (clockOf onward) (beside q (omega arith) i) (beside (q + 1) (omega arith) i))
+      ∙ ap (item (frameFrom (getD t q 0) (getD t (q + 1) 0))) (since-on (stampIn (getD t q 0)))
+
+  module _ (k : ℕ) (hk : k < places) where
+    items-on : (s n : ℕ) → items onward k s n ≡ map laterItem (items t k s n)
+    items-on s zero = refl
+    items-on s (suc n) = λ i. item-on (slot k s) (omega arith) i ∷ items-on (s + 1) n i
+
+    inbox-on : inbox onward k ≡ map laterItem (inbox t k)
+    unfolding inbox
+    inbox-on =
+        (λ i. items onward k (beside (firstAt k) (omega arith) i) (beside (countAt k) (omega arith) i))
+        ∙ items-on (getD t (firstAt k) 0) (getD t (countAt k) 0)
+
+    node-on : nodeAt onward k ≡ nodeAt t k
+    node-on = node-ext t onward k (λ q a b. beside q (omega arith))
+
+    place-on : placeAt onward k ≡ laterPlace (placeAt t k)
+    place-on =
+        place-eq node-on inbox-on
+        ((λ i. timedAge (timedOf (node-on i)) (since (clockOf onward) (beside (stampAt k) (omega arith) i)))
+        ∙ ap (timedAge (timedOf (nodeAt t k))) (since-on (getD t (stampAt k) 0))
+        ∙ timed-later (timedOf (nodeAt t k)) (since (clockOf t) (getD t (stampAt k) 0)))
+
+  pub advanced : Advanced t (set t clockAt (getD t clockAt 0 % round + 1))
+  advanced = record {
+    held = beyond-held t clockAt (getD t clockAt 0 % round + 1) h (omega arith);
+    late = ap (λ (x : ℕ). eqb x 1) (beside lateAt (omega arith));
+    same = place-on;
+  }
 
 -- all words 0
 
@@ -166,15 +239,16 @@ zeros t l z = record {
 }
   where
     empty : (k : ℕ) → k < places → placeAt t k ≡ blank
-    empty k hk = place-eq {q = blank}
-        (λ i. nodeFrom
+    empty k hk =
+        let n : nodeAt t k ≡ offNode = λ i. nodeFrom
         (z (block * k) (omega arith) i)
         (z (block * k + 1) (omega arith) i)
         (z (block * k + 2) (omega arith) i)
         (z (block * k + 3) (omega arith) i)
-        (z (block * k + 4) (omega arith) i))
+        (z (block * k + 4) (omega arith) i) in
+        place-eq {q = blank} n
         (inbox-none t k (z (countAt k) (omega arith)))
-        (z (ageAt k) (omega arith))
+        (ap (λ (m : Node). timedAge (timedOf m) (since (clockOf t) (getD t (stampAt k) 0))) n)
 
 pub new-words : Fresh (replicate words 0)
 new-words = zeros (replicate words 0) (length-replicate {A = ℕ} words 0) (λ q h. getD-replicate {A = ℕ} words q 0 0 h)

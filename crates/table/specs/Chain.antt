@@ -1,7 +1,7 @@
 -- Laws of the words: what one place's change leaves, and how changes follow one another.
 use mathlib.Core.Path.{_≡_, refl, sym, ap, _∙_}
 use mathlib.Core.Logic.{_≢_, _⊎_, inl, inr, ⊎-elim}
-use Prim.Native.Nat.{ℕ, zero, suc, _+_, _*_, _<_, _≤_}
+use Prim.Native.Nat.{ℕ, zero, suc, _+_, _*_, _%_, _<_, _≤_}
 use mathlib.Core.Bool.{Bool, true, false}
 use mathlib.Core.List.{List, _∷_}
 use native.Mathlib.Nat.{le-of-suc-le-suc, not-suc-le-zero}
@@ -10,9 +10,33 @@ use lib.Dec.{ltb, eqb}
 use borrow.Author.Tests.{ltb-true, ltb-false, eqb-true, eqb-false}
 use lib.ListN.{length, getD}
 use lib.Seq.{ext-getD}
-use Rattle.table.specs.Rules.{places, Place, Places, blank, at}
+use Rattle.table.specs.Rules.{places, Place, Places, blank, at, timedOf}
 use Rattle.table.specs.Laws.{place-eq}
-use Rattle.table.specs.Words.{block, countAt, firstAt, ageAt, slot, lateAt, nodeFrom, nodeAt, itemFrom, itemAt, items, inbox, placeAt, lateOf, row, view, Held, At}
+use Rattle.table.specs.Words.{
+  block,
+  countAt,
+  firstAt,
+  stampAt,
+  slot,
+  lateAt,
+  clockAt,
+  round,
+  since,
+  timedAge,
+  nodeFrom,
+  nodeAt,
+  itemFrom,
+  itemAt,
+  items,
+  inbox,
+  ageOf,
+  placeAt,
+  lateOf,
+  row,
+  view,
+  Held,
+  At,
+}
 
 pub lt-or-le : (a b : ℕ) → (a < b) ⊎ (b ≤ a)
 lt-or-le a b = go (ltb a b) refl
@@ -55,9 +79,10 @@ view-is t T e h =
 
 -- WORDS AND PLACES
 
-pub item-ext : (t t′ : List ℕ) (q : ℕ) → getD t′ q 0 ≡ getD t q 0 → getD t′ (q + 1) 0 ≡ getD t (q + 1) 0 → itemAt t′ q ≡ itemAt t q
+pub item-ext : (t t′ : List ℕ) (q : ℕ) → getD t′ clockAt 0 ≡ getD t clockAt 0 → getD t′ q 0 ≡ getD t q 0 → getD t′ (q + 1) 0 ≡ getD t (q + 1) 0
+    → itemAt t′ q ≡ itemAt t q
 unfolding itemAt
-item-ext t t′ q a b = λ i. itemFrom (a i) (b i)
+item-ext t t′ q c a b = λ i. itemFrom (c i % round) (a i) (b i)
 
 -- frames from slot s on are as they were where each of them is
 pub items-ext : (t t′ : List ℕ) (k s n : ℕ) → ((x : ℕ) → s ≤ x → x < s + n → itemAt t′ (slot k x) ≡ itemAt t (slot k x))
@@ -66,13 +91,13 @@ items-ext t t′ k s zero e = refl
 items-ext t t′ k s (suc n) e =
     λ i. e s (omega arith) (omega arith) i ∷ items-ext t t′ k (s + 1) n (λ x a b. e x (omega arith) (omega arith)) i
 
-pub inbox-ext : (t t′ : List ℕ) (k : ℕ) → ((q : ℕ) → countAt k ≤ q → q < block * k + block → q ≢ ageAt k → getD t′ q 0 ≡ getD t q 0)
-    → inbox t′ k ≡ inbox t k
+pub inbox-ext : (t t′ : List ℕ) (k : ℕ) → getD t′ clockAt 0 ≡ getD t clockAt 0
+    → ((q : ℕ) → countAt k ≤ q → q < block * k + block → q ≢ stampAt k → getD t′ q 0 ≡ getD t q 0) → inbox t′ k ≡ inbox t k
 unfolding inbox
-inbox-ext t t′ k e =
+inbox-ext t t′ k c e =
     (λ i. items t′ k (e (firstAt k) (omega arith) (omega arith) (omega arith) i) (e (countAt k) (omega arith) (omega arith) (omega arith) i))
     ∙ items-ext t t′ k (getD t (firstAt k) 0) (getD t (countAt k) 0)
-    (λ x a b. item-ext t t′ (slot k x) (e (slot k x) (omega arith) (omega arith) (omega arith)) (e (slot k x + 1) (omega arith) (omega arith) (omega arith)))
+    (λ x a b. item-ext t t′ (slot k x) c (e (slot k x) (omega arith) (omega arith) (omega arith)) (e (slot k x + 1) (omega arith) (omega arith) (omega arith)))
 
 pub node-ext : (t t′ : List ℕ) (k : ℕ) → ((q : ℕ) → block * k ≤ q → q < countAt k → getD t′ q 0 ≡ getD t q 0) → nodeAt t′ k ≡ nodeAt t k
 unfolding nodeAt
@@ -84,12 +109,18 @@ node-ext t t′ k e =
     (e (block * k + 3) (omega arith) (omega arith) i)
     (e (block * k + 4) (omega arith) (omega arith) i)
 
-pub place-ext : (t t′ : List ℕ) (k : ℕ) → ((q : ℕ) → block * k ≤ q → q < block * k + block → getD t′ q 0 ≡ getD t q 0) → placeAt t′ k ≡ placeAt t k
-place-ext t t′ k e =
-    place-eq
-    (node-ext t t′ k (λ q a b. e q a (omega arith)))
-    (inbox-ext t t′ k (λ q a b ne. e q (omega arith) b))
-    (e (ageAt k) (omega arith) (omega arith))
+-- the age goes by the node, the clock and the stamp
+pub age-ext : (t t′ : List ℕ) (k : ℕ) → nodeAt t′ k ≡ nodeAt t k → getD t′ clockAt 0 ≡ getD t clockAt 0
+    → getD t′ (stampAt k) 0 ≡ getD t (stampAt k) 0 → ageOf t′ k ≡ ageOf t k
+age-ext t t′ k n c s = λ i. timedAge (timedOf (n i)) (since (c i % round) (s i))
+
+pub place-ext : (t t′ : List ℕ) (k : ℕ) → getD t′ clockAt 0 ≡ getD t clockAt 0
+    → ((q : ℕ) → block * k ≤ q → q < block * k + block → getD t′ q 0 ≡ getD t q 0) → placeAt t′ k ≡ placeAt t k
+place-ext t t′ k c e =
+    let n : nodeAt t′ k ≡ nodeAt t k = node-ext t t′ k (λ q a b. e q a (omega arith)) in
+    place-eq n
+    (inbox-ext t t′ k c (λ q a b ne. e q (omega arith) b))
+    (age-ext t t′ k n c (e (stampAt k) (omega arith) (omega arith)))
 
 -- ONE PLACE HAS CHANGED
 
@@ -97,11 +128,14 @@ at-word : {t t′ : List ℕ} {k : ℕ} {p : Place} → At t k p t′ → (j q :
 at-word {k = k} a j q ne l r =
     ⊎-elim (λ (s : j < k). a .below q (omega arith)) (λ (s : k ≤ j). a .above q (omega arith)) (lt-or-le j k)
 
+pub at-clock : {t t′ : List ℕ} {k : ℕ} {p : Place} → At t k p t′ → getD t′ clockAt 0 ≡ getD t clockAt 0
+at-clock a = a .above clockAt (omega (arith, a .inside))
+
 pub at-same : {t t′ : List ℕ} {k : ℕ} {p : Place} → At t k p t′ → placeAt t′ k ≡ p
 at-same a = a .this
 
 pub at-other : {t t′ : List ℕ} {k : ℕ} {p : Place} → At t k p t′ → (j : ℕ) → j ≢ k → placeAt t′ j ≡ placeAt t j
-at-other {t} {t′} a j ne = place-ext t t′ j (λ q l r. at-word a j q ne l r)
+at-other {t} {t′} a j ne = place-ext t t′ j (at-clock a) (λ q l r. at-word a j q ne l r)
 
 pub at-held : {t t′ : List ℕ} {k : ℕ} {p : Place} → Held t → At t k p t′ → Held t′
 at-held {t} {t′} {k} h a = record {
@@ -116,12 +150,13 @@ at-held {t} {t′} {k} h a = record {
       (eq-or-ne j k);
 }
 
-pub at-late : {t t′ : List ℕ} {k : ℕ} {p : Place} → k < places → At t k p t′ → lateOf t′ ≡ lateOf t
-at-late hk a = ap (λ (x : ℕ). eqb x 1) (a .above lateAt (omega arith))
+pub at-late : {t t′ : List ℕ} {k : ℕ} {p : Place} → At t k p t′ → lateOf t′ ≡ lateOf t
+at-late a = ap (λ (x : ℕ). eqb x 1) (a .above lateAt (omega (arith, a .inside)))
 
 -- one after the other at the same place
 pub at-then : {t t′ t″ : List ℕ} {k : ℕ} {p p′ : Place} → At t k p t′ → At t′ k p′ t″ → At t k p′ t″
 at-then a b = record {
+  inside = b .inside;
   long = b .long ∙ a .long;
   below = λ q l. b .below q l ∙ a .below q l;
   above = λ q l. b .above q l ∙ a .above q l;
@@ -132,4 +167,4 @@ at-then a b = record {
 
 -- nothing has changed
 pub at-none : {t : List ℕ} {k : ℕ} {p : Place} → Held t → k < places → placeAt t k ≡ p → At t k p t
-at-none {k = k} h hk e = record { long = refl; below = λ q l. refl; above = λ q l. refl; few = h .few k hk; ring = h .ring k hk; this = e }
+at-none {k = k} h hk e = record { inside = hk; long = refl; below = λ q l. refl; above = λ q l. refl; few = h .few k hk; ring = h .ring k hk; this = e }

@@ -15,11 +15,11 @@ use Rattle.node.specs.declared.state.Node.{Node}
 use Rattle.table.specs.Rules.{places, limit, Item, Place, Places, start, at, Command, answer, step, run, answers, old, kept}
 use Rattle.table.specs.Words.{nodeAt, inbox, placeAt, lateOf, view, Fresh}
 use Rattle.table.specs.Chain.{view-at}
-use Rattle.table.specs.Young.{isTick}
-use Rattle.table.specs.Capped.{capItem, capPlace, cap, at-cap, answer-cap, step-cap, frames-cap}
+use Rattle.table.specs.Laws.{both}
+use Rattle.table.specs.Bare.{barePlace, bare, at-bare, same-answer, same-step, frames-bare}
 use Rattle.table.specs.Runs.{run-snoc, answers-snoc, kept-snoc, kept-young, late-step}
 use Rattle.table.specs.Single.{single, one-meaning}
-use Rattle.table.specs.Done.{Sound, sound-of, reaches, Done, Does}
+use Rattle.table.specs.Done.{Sound, fresh-sound, reaches, Done, Does}
 
 -- A LIST, carried out by the code: the commands cs, one after another on one table from all nodes Off, answered as and left
 -- the words t. `Fresh` is what `new` ensures, `Does` what each command ensures.
@@ -48,45 +48,58 @@ pub record Claim (cs : List Command) (xs : List A.Answer) (t : List ℕ) : Type 
   pub one-meaning : kept limit limit start cs ≡ true → (p q : ℕ) → p < places → q < places → p ≢ q → (f g : Frame)
       → dueOf (nodeAt t p) ≡ Next f → dueOf (nodeAt t q) ≡ Next g → f .header ≡ g .header → (f .len ≡ g .len) × (f .bytes ≡ g .bytes)
 
--- what is carried through the list: the answers, the table with ages counted up to one above the limit, and late
+-- what is carried through the list: the answers, the table without its ages, with them while the list is kept, and late
 pub record Followed (cs : List Command) (xs : List A.Answer) (t : List ℕ) : Type 0 where
   pub answered : map answerAs xs ≡ answers start cs
-  pub table : view t ≡ cap (run start cs)
+  pub table : bare (view t) ≡ bare (run start cs)
+  pub ages : kept limit limit start cs ≡ true → view t ≡ run start cs
   pub late : lateOf t ≡ not (kept limit limit start cs)
   pub sound : Sound t
+
+-- a command's answer is what the rules give
+pub told : {cs : List Command} {xs : List A.Answer} {t : List ℕ} {c : Command} {a : A.Answer} {t′ : List ℕ} → Followed cs xs t → Does c t a t′
+    → answerAs a ≡ answer (run start cs) c
+told {cs} {t = t} {c = c} F d = d (F .sound) .answered ∙ same-answer (view t) (run start cs) (F .table) c
 
 next : (cs : List Command) (xs : List A.Answer) (t : List ℕ) (c : Command) (a : A.Answer) (t′ : List ℕ) → Followed cs xs t → Does c t a t′
     → Followed (cs ++ c ∷ []) (xs ++ a ∷ []) t′
 next cs xs t c a t′ F d = record {
-  answered = map-append answerAs xs (a ∷ []) ∙ (λ i. F .answered i ++ one i ∷ []) ∙ sym (answers-snoc start cs c);
-  table = D .table ∙ ap (λ (T : Places). cap (step T c)) (F .table) ∙ step-cap (run start cs) c ∙ ap cap (sym (run-snoc start cs c));
-  late =
-      D .late ∙ (λ i. F .late i || reaches c (step (F .table i) c))
-      ∙ late-step (run start cs) c (kept limit limit start cs) (kept-young limit limit start cs)
-      ∙ ap not (sym (kept-snoc limit limit start cs c));
+  answered = map-append answerAs xs (a ∷ []) ∙ (λ i. F .answered i ++ told F d i ∷ []) ∙ sym (answers-snoc start cs c);
+  table = D .table ∙ same-step (view t) (run start cs) (F .table) c ∙ ap bare (sym (run-snoc start cs c));
+  ages = λ e.
+      let k = both (kept limit limit start cs) _ (sym (kept-snoc limit limit start cs c) ∙ e) .0 in
+      D .ages (F .late ∙ ap not k) ∙ ap (λ (T : Places). step T c) (F .ages k) ∙ sym (run-snoc start cs c);
+  late = D .late ∙ now (kept limit limit start cs) refl ∙ ap not (sym (kept-snoc limit limit start cs c));
   sound = D .sound;
 }
   where
     D : Done c t a t′
     D = d (F .sound)
 
-    one : answerAs a ≡ answer (run start cs) c
-    one = D .answered ∙ ap (λ (T : Places). answer T c) (F .table) ∙ answer-cap (run start cs) c
+    now : (k : Bool) → kept limit limit start cs ≡ k
+        → (lateOf t || reaches c (step (view t) c)) ≡ not (k && not (old limit limit (step (run start cs) c)))
+    now false e = ap (λ (b : Bool). b || reaches c (step (view t) c)) (F .late ∙ ap not e)
+    now true e =
+        (λ i. (F .late ∙ ap not e) i || reaches c (step (F .ages e i) c))
+        ∙ late-step (run start cs) c (kept-young limit limit start cs e)
 
 pub follows : {cs : List Command} {xs : List A.Answer} {t : List ℕ} → Carried cs xs t → Followed cs xs t
 unfolding run answers kept offNode
-follows (begun f) = record { answered = refl; table = f .table; late = f .late; sound = sound-of _ start (f .held) (f .table) }
+follows (begun f) = record { answered = refl; table = ap bare (f .table); ages = λ e. f .table; late = f .late; sound = fresh-sound f }
 follows (then r d) = next _ _ _ _ _ _ (follows r) d
 
 module _ {cs : List Command} {xs : List A.Answer} {t : List ℕ} (r : Carried cs xs t) (k : ℕ) (h : k < places) where
-  same-place : placeAt t k ≡ capPlace (at (run start cs) k)
-  same-place = sym (view-at t k h) ∙ ap (λ (T : Places). at T k) (follows r .table) ∙ at-cap (run start cs) k
+  same-place : barePlace (placeAt t k) ≡ barePlace (at (run start cs) k)
+  same-place =
+      ap barePlace (sym (view-at t k h)) ∙ sym (at-bare (view t) k)
+      ∙ ap (λ (T : Places). at T k) (follows r .table) ∙ at-bare (run start cs) k
 
   same-node : nodeAt t k ≡ at (run start cs) k .node
   same-node = ap (λ (p : Place). p .node) same-place
 
   same-inbox : frames (inbox t k) ≡ frames (at (run start cs) k .inbox)
-  same-inbox = ap (λ (p : Place). frames (p .inbox)) same-place ∙ frames-cap (at (run start cs) k .inbox)
+  same-inbox =
+      sym (frames-bare (inbox t k)) ∙ ap (λ (p : Place). frames (p .inbox)) same-place ∙ frames-bare (at (run start cs) k .inbox)
 
 -- DEMAND 3, for any number of commands and any operands, equal Node IDs at two indexes included.
 pub claim : {cs : List Command} {xs : List A.Answer} {t : List ℕ} → Carried cs xs t → Claim cs xs t

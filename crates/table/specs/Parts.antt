@@ -1,17 +1,17 @@
 -- What the parts of the commands do to a place.
 use mathlib.Core.Path.{_≡_}
 use mathlib.Core.Logic.{_≢_}
-use Prim.Native.Nat.{ℕ, _+_, _^_, _<_, _≤_}
-use mathlib.Core.Bool.{Bool, true, false, cond}
+use Prim.Native.Nat.{ℕ, _+_, _%_, _<_, _≤_}
+use mathlib.Core.Bool.{Bool, true, false, cond, _||_}
 use mathlib.Core.List.{List, [], _∷_, _++_, map}
-use lib.Dec.{leb, eqb}
+use lib.Dec.{ltb, eqb}
 use Rattle.node.specs.declared.frame.Frame.{Frame}
 use Rattle.node.specs.Rules.{Answer, accepted, refused, Value, Outcome, isOff, tickOf}
 use Rattle.node.specs.declared.state.Node.{Node}
 use Rattle.table.specs.declared.ages.Timed.{Timed}
 use Rattle.table.specs.declared.ages.Timed.the-variants.{Untimed, Reply, Amr}
-use Rattle.table.specs.Rules.{places, limit, Item, item, Place, place, timedOf, after, hasRoom, anyOld, oldPlace}
-use Rattle.table.specs.Words.{nodeAt, inbox, ageOf, ageIn, placeAt, lateOf, Held, At}
+use Rattle.table.specs.Rules.{places, limit, Item, item, Place, place, timedOf, after, hasRoom, timedOld}
+use Rattle.table.specs.Words.{round, nodeAt, inbox, ageOf, placeAt, lateOf, Held, At}
 
 -- The first frame of inbox k, r, has left it.
 pub record Taken (t : List ℕ) (k : ℕ) (r : Frame) (t′ : List ℕ) : Type 0 where
@@ -22,21 +22,6 @@ pub record Taken (t : List ℕ) (k : ℕ) (r : Frame) (t′ : List ℕ) : Type 0
 -- A frame comes to a place, where there is room.
 unfoldable pub pushed : Frame → Place → Place
 pushed f p = place (p .node) (cond (hasRoom p) (p .inbox ++ item f 0 ∷ []) (p .inbox)) (p .age)
-
--- A tick older, counted to one above the limit.
-abbrev pub agedBy : ℕ → ℕ
-agedBy g = cond (leb g limit) (g + 1) g
-
-abbrev pub aged : Item → Item
-aged x = item (x .frame) (agedBy (x .age))
-
-abbrev pub agedWord : ℕ → ℕ
-agedWord w = cond (leb (ageIn w) limit) (w + 2 ^ 48) w
-
--- Every frame of inbox k is a tick older, and r says whether one is then above the limit.
-pub record Aged (t : List ℕ) (k : ℕ) (r : Bool) (t′ : List ℕ) : Type 0 where
-  pub rest : At t k (place (nodeAt t k) (map aged (inbox t k)) (ageOf t k)) t′
-  pub old : r ≡ anyOld limit limit (map aged (inbox t k))
 
 -- Which other inbox is full, if one is.
 pub record FullBut (t : List ℕ) (from : ℕ) (r : Bool) : Type 0 where
@@ -67,16 +52,52 @@ Settled t k o a t′ = SettledBy (o .answer) t k (after (placeAt t k) (o .node) 
 abbrev pub Reset : List ℕ → ℕ → Outcome → Answer Value → List ℕ → Type 0
 Reset t k o a t′ = SettledBy (o .answer) t k (place (o .node) [] 0) a t′
 
--- A tick, ages counted to one above the limit.
-abbrev pub tickAgeBy : Timed → ℕ → ℕ
-tickAgeBy Untimed g = g
-tickAgeBy Reply g = agedBy g
-tickAgeBy Amr g = agedBy g
+-- AGES
 
-abbrev pub tickedPlace : Place → Place
-tickedPlace p = place (tickOf (p .node)) (map aged (p .inbox)) (tickAgeBy (timedOf (p .node)) (p .age))
+-- The stamp after an event: it stays where the same frame still waits, else an age begins now.
+abbrev pub stampOn : (was is : Timed) → (stamp clock : ℕ) → ℕ
+stampOn Untimed is s c = c
+stampOn Reply Untimed s c = c
+stampOn Reply Reply s c = s
+stampOn Reply Amr s c = c
+stampOn Amr Untimed s c = c
+stampOn Amr Reply s c = c
+stampOn Amr Amr s c = s
 
--- Place k has ticked, and r says whether an age there is then above the limit.
-pub record TickedAt (t : List ℕ) (k : ℕ) (r : Bool) (t′ : List ℕ) : Type 0 where
-  pub rest : At t k (tickedPlace (placeAt t k)) t′
-  pub old : r ≡ oldPlace limit limit (tickedPlace (placeAt t k))
+-- The node at a place has ticked.
+abbrev pub ticked : Place → Place
+ticked p = place (tickOf (p .node)) (p .inbox) (p .age)
+
+-- A tick later, by a clock that goes round.
+abbrev pub later : ℕ → ℕ
+later g = (g + 1) % round
+
+abbrev pub laterItem : Item → Item
+laterItem x = item (x .frame) (later (x .age))
+
+abbrev pub laterTimed : Timed → ℕ → ℕ
+laterTimed Untimed g = g
+laterTimed Reply g = later g
+laterTimed Amr g = later g
+
+abbrev pub laterPlace : Place → Place
+laterPlace p = place (p .node) (map laterItem (p .inbox)) (laterTimed (timedOf (p .node)) (p .age))
+
+-- The clock has gone on by a tick, and nothing else has changed.
+pub record Advanced (t t′ : List ℕ) : Type 0 where
+  pub held : Held t′
+  pub late : lateOf t′ ≡ lateOf t
+  pub same : (k : ℕ) → k < places → placeAt t′ k ≡ laterPlace (placeAt t k)
+
+-- The age of the first frame exceeds the limit; or that of what waits.
+abbrev pub firstOld : List Item → Bool
+firstOld [] = false
+firstOld (x ∷ xs) = ltb limit (x .age)
+
+abbrev pub headOld : Place → Bool
+headOld p = firstOld (p .inbox) || timedOld limit limit (timedOf (p .node)) (p .age)
+
+-- Which place has one, if one has.
+pub record OldSome (t : List ℕ) (r : Bool) : Type 0 where
+  pub some : r ≡ true → (k : ℕ) × (k < places) × (headOld (placeAt t k) ≡ true)
+  pub none : r ≡ false → (k : ℕ) → k < places → headOld (placeAt t k) ≡ false

@@ -1,6 +1,6 @@
 -- The words of a segment, seen as its places. The layout is that of src/layout.rt.
 use mathlib.Core.Path.{_≡_}
-use Prim.Native.Nat.{ℕ, zero, suc, _+_, _*_, _/_, _%_, _^_, _<_, _≤_}
+use Prim.Native.Nat.{ℕ, zero, suc, _+_, _-_, _*_, _/_, _%_, _^_, _<_, _≤_}
 use mathlib.Core.Bool.{Bool, true, false, cond}
 use mathlib.Core.List.{List, [], _∷_}
 use lib.Dec.{ltb, eqb}
@@ -14,7 +14,9 @@ use Rattle.node.specs.declared.state.Reason.the-variants.{Collision, Release}
 use Rattle.node.specs.declared.state.Waiting.{Waiting}
 use Rattle.node.specs.declared.state.Host.{Host}
 use Rattle.node.specs.declared.state.Host.the-variants.{Empty, Waits}
-use Rattle.table.specs.Rules.{places, inboxRoom, Item, item, Place, place, Places, start}
+use Rattle.table.specs.declared.ages.Timed.{Timed}
+use Rattle.table.specs.declared.ages.Timed.the-variants.{Untimed, Reply, Amr}
+use Rattle.table.specs.Rules.{places, inboxRoom, Item, item, Place, place, Places, start, timedOf}
 
 -- WHERE THE WORDS STAND
 
@@ -30,8 +32,8 @@ countAt k = block * k + 8
 abbrev pub firstAt : ℕ → ℕ
 firstAt k = block * k + 9
 
-abbrev pub ageAt : ℕ → ℕ
-ageAt k = block * k + 10
+abbrev pub stampAt : ℕ → ℕ
+stampAt k = block * k + 10
 
 -- The slot of the ring that s stands for.
 abbrev pub slot : ℕ → ℕ → ℕ
@@ -40,13 +42,24 @@ slot k s = block * k + 16 + 2 * (s % inboxRoom)
 abbrev pub lateAt : ℕ
 lateAt = places * block
 
+abbrev pub clockAt : ℕ
+clockAt = places * block + 1
+
 -- WHAT WORDS SAY, whatever they are
 
 unfoldable pub frameFrom : ℕ → ℕ → Frame
 frameFrom w d = record { kind = w % 2 ^ 8; header = w / 2 ^ 16 % 2 ^ 32; len = w / 2 ^ 8 % 2 ^ 8; bytes = d }
 
-abbrev pub ageIn : ℕ → ℕ
-ageIn w = w / 2 ^ 48 % 2 ^ 8
+-- The clock counts ticks, and goes round. A stamp is what it read when an age began.
+abbrev pub round : ℕ
+round = 2 ^ 16
+
+abbrev pub stampIn : ℕ → ℕ
+stampIn w = w / 2 ^ 48 % round
+
+-- The ticks from a stamp to a reading of the clock.
+abbrev pub since : (clock stamp : ℕ) → ℕ
+since c s = (c % round + round - s % round) % round
 
 abbrev pub phaseFrom : (tag sent ticks : ℕ) → Phase
 phaseFrom tag sent ticks =
@@ -74,9 +87,12 @@ aliasFrom w = record { 0 = w % 2 ^ 16 }
 abbrev pub phaseIn : ℕ → Phase
 phaseIn w = phaseAt (w / 2 ^ 24 % 2 ^ 19)
 
+abbrev pub replyIn : ℕ → Bool
+replyIn w = eqb (w / 2 ^ 16 % 2) 1
+
 abbrev pub waitingFrom : ℕ → Host → Waiting
 waitingFrom w h = record {
-  reply = eqb (w / 2 ^ 16 % 2) 1;
+  reply = replyIn w;
   amd = eqb (w / 2 ^ 17 % 2) 1;
   report = eqb (w / 2 ^ 18 % 2) 1;
   host = h;
@@ -109,12 +125,15 @@ nodeAt t k =
     (getD t (block * k + 3) 0)
     (getD t (block * k + 4) 0)
 
-abbrev pub itemFrom : ℕ → ℕ → Item
-itemFrom w d = item (frameFrom w d) (ageIn w)
+abbrev pub clockOf : List ℕ → ℕ
+clockOf t = getD t clockAt 0 % round
+
+abbrev pub itemFrom : (clock w d : ℕ) → Item
+itemFrom c w d = item (frameFrom w d) (since c (stampIn w))
 
 -- The inbox frame that stands at word q.
 unfoldable pub itemAt : List ℕ → ℕ → Item
-itemAt t q = itemFrom (getD t q 0) (getD t (q + 1) 0)
+itemAt t q = itemFrom (clockOf t) (getD t q 0) (getD t (q + 1) 0)
 
 -- n of them from slot s of place k on, round the ring.
 abbrev pub items : List ℕ → (k s n : ℕ) → List Item
@@ -124,8 +143,14 @@ items t k s (suc n) = itemAt t (slot k s) ∷ items t k (s + 1) n
 unfoldable pub inbox : List ℕ → ℕ → List Item
 inbox t k = items t k (getD t (firstAt k) 0) (getD t (countAt k) 0)
 
+-- An age is there where a reply RID or AMR waits.
+abbrev pub timedAge : Timed → ℕ → ℕ
+timedAge Untimed g = 0
+timedAge Reply g = g
+timedAge Amr g = g
+
 abbrev pub ageOf : List ℕ → ℕ → ℕ
-ageOf t k = getD t (ageAt k) 0
+ageOf t k = timedAge (timedOf (nodeAt t k)) (since (clockOf t) (getD t (stampAt k) 0))
 
 abbrev pub placeAt : List ℕ → ℕ → Place
 placeAt t k = place (nodeAt t k) (inbox t k) (ageOf t k)
@@ -150,6 +175,7 @@ pub record Held (t : List ℕ) : Type 0 where
 
 -- Place k is p now, and nothing else has changed.
 pub record At (t : List ℕ) (k : ℕ) (p : Place) (t′ : List ℕ) : Type 0 where
+  pub inside : k < places
   pub long : length t′ ≡ length t
   pub below : (q : ℕ) → q < block * k → getD t′ q 0 ≡ getD t q 0
   pub above : (q : ℕ) → block * k + block ≤ q → getD t′ q 0 ≡ getD t q 0
@@ -157,7 +183,7 @@ pub record At (t : List ℕ) (k : ℕ) (p : Place) (t′ : List ℕ) : Type 0 wh
   pub ring : getD t′ (firstAt k) 0 < inboxRoom
   pub this : placeAt t′ k ≡ p
 
--- The node of place k is n now, and nothing else has changed, its inbox and age neither.
+-- The node of place k is n now, and no other word has changed.
 pub record NodeStored (t : List ℕ) (k : ℕ) (n : Node) (t′ : List ℕ) : Type 0 where
   pub long : length t′ ≡ length t
   pub below : (q : ℕ) → q < block * k → getD t′ q 0 ≡ getD t q 0

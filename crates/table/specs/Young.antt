@@ -1,6 +1,6 @@
 -- Only a tick makes an age exceed its limit.
-use mathlib.Core.Path.{_≡_, refl}
-use mathlib.Core.Bool.{Bool, true, false, true≢false, cond, _||_}
+use mathlib.Core.Path.{_≡_, refl, sym}
+use mathlib.Core.Bool.{Bool, true, false, true≢false, cond, _||_, _&&_}
 use mathlib.Core.List.{List, [], _∷_, _++_, map}
 use Prim.Native.Nat.{ℕ, zero, suc, _≤_}
 use native.Mathlib.Omega.{arith}
@@ -176,9 +176,17 @@ module _ (i o : ℕ) where
     young-carry (enquiry n l id) q = young-change n _
     young-carry (release n) q = young-change n _
 
-    pub young-step : (c : Command) → isTick c ≡ false → old i o (step T c) ≡ false
+    young-step : (c : Command) → isTick c ≡ false → old i o (step T c) ≡ false
     young-step c q = go (answer T c)
       where
         go : (a : Answer Value) → old i o (stepBy a T c) ≡ false
         go (accepted v) = young-carry c q
         go (refused number) = y
+
+    -- whether an age exceeds its limit then, a tick alone tells
+    pub tick-tells : (c : Command) → (isTick c && old i o (step T c)) ≡ old i o (step T c)
+    tick-tells c = go (isTick c) refl
+      where
+        go : (b : Bool) → isTick c ≡ b → (b && old i o (step T c)) ≡ old i o (step T c)
+        go true e = refl
+        go false e = sym (young-step c e)

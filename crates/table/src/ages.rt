@@ -1,10 +1,12 @@
 // Ages: which waiting frame has one, and how it goes on.
+use crate::layout::ROUND;
 use crate::layout::Table;
 use node::state::Node;
 use node::state::Phase;
 ghost use mathlib.Core.Path.{_≡_};
-ghost use Rattle.table.specs.Rules.{timedOf, agesOn, timedOld, limit};
-ghost use Rattle.table.specs.Parts.{tickAgeBy};
+ghost use Rattle.table.specs.Rules.{timedAt, timedOf, timedOld, limit};
+ghost use Rattle.table.specs.Words.{since};
+ghost use Rattle.table.specs.Parts.{stampOn};
 
 // The frame with an age that waits at a node.
 pub enum Timed {
@@ -13,62 +15,53 @@ pub enum Timed {
     Amr,
 }
 
-pub(crate) fn timed_of(n: Node) -> Timed
-    ensures { λ r. ⌜ r ≡ timedOf n ⌝ }
+// By a node's phase, and whether a reply RID waits.
+pub(crate) fn timed_by(p: Phase, reply: bool) -> Timed
+    ensures { λ r. ⌜ r ≡ timedAt p reply ⌝ }
 {
-    let p = n.phase;
-    let w = n.waiting;
     match p {
         Phase::Off => Timed::Untimed,
         Phase::Testing(_, _) => Timed::Untimed,
-        Phase::Reserved => {
-            if w.reply {
-                Timed::Reply
-            } else {
-                Timed::Untimed
-            }
-        }
-        Phase::Permitted => {
-            if w.reply {
-                Timed::Reply
-            } else {
-                Timed::Untimed
-            }
-        }
+        Phase::Reserved => { if reply { Timed::Reply } else { Timed::Untimed } }
+        Phase::Permitted => { if reply { Timed::Reply } else { Timed::Untimed } }
         Phase::Leaving(_) => Timed::Amr,
         Phase::Resting => Timed::Untimed,
         Phase::Silent => Timed::Untimed,
     }
 }
 
-// The age after an event: it goes on where the same frame still waits.
-pub(crate) fn ages_on(was: Timed, is: Timed, age: u64) -> u64
-    ensures { λ r. ⌜ r ≡ agesOn was is age ⌝ }
+pub(crate) fn timed_of(n: Node) -> Timed
+    ensures { λ r. ⌜ r ≡ timedOf n ⌝ }
+{
+    let p = n.phase;
+    let w = n.waiting;
+    timed_by(p, w.reply)
+}
+
+// The stamp after an event: it stays where the same frame still waits, else an age begins now.
+pub(crate) fn stamp_on(was: Timed, is: Timed, stamp: u64, clock: u64) -> u64
+    ensures { λ r. ⌜ r ≡ stampOn was is stamp clock ⌝ }
 {
     match was {
-        Timed::Untimed => 0,
+        Timed::Untimed => clock,
         Timed::Reply => match is {
-            Timed::Untimed => 0,
-            Timed::Reply => age,
-            Timed::Amr => 0,
+            Timed::Untimed => clock,
+            Timed::Reply => stamp,
+            Timed::Amr => clock,
         },
         Timed::Amr => match is {
-            Timed::Untimed => 0,
-            Timed::Reply => 0,
-            Timed::Amr => age,
+            Timed::Untimed => clock,
+            Timed::Reply => clock,
+            Timed::Amr => stamp,
         },
     }
 }
 
-// The age after a tick, counted to one above the limit.
-pub(crate) fn tick_age(t: Timed, age: u64) -> u64
-    ensures { λ r. ⌜ r ≡ tickAgeBy t age ⌝ }
+// The ticks from a stamp to a reading of the clock.
+pub(crate) fn since(clock: u64, stamp: u64) -> u64
+    ensures { λ r. ⌜ r ≡ since clock stamp ⌝ }
 {
-    match t {
-        Timed::Untimed => age,
-        Timed::Reply => { if age <= Table::LATENESS { age + 1 } else { age } }
-        Timed::Amr => { if age <= Table::LATENESS { age + 1 } else { age } }
-    }
+    (clock % ROUND + ROUND - stamp % ROUND) % ROUND
 }
 
 // Whether the age of what waits is above the limit.

@@ -1,6 +1,7 @@
 // The nine commands on the table, which is one lent array of words.
 use crate::broadcast;
 use crate::change;
+use crate::lateness;
 use crate::layout::Table;
 use crate::layout::WORDS;
 use crate::store;
@@ -87,20 +88,21 @@ pub fn deliver(table: &mut [u64; WORDS], index: usize) -> Answer
         return Answer::Refused(Refusal::InboxEmpty);
     }
     let f = store::take(&mut *table, index);
-    let m = n.hears(f);
-    change::becomes(&mut *table, index, n, m);
+    change::hears(&mut *table, index, n, f);
     Answer::Accepted
 }
 
 pub fn tick(table: &mut [u64; WORDS]) -> Answer
     ensures { λ r. ⌜ Does tick (now (table .entry)) r (now (table .exit)) ⌝ }
 {
-    let mut late = false;
     for k in 0..Table::PLACES {
-        let x = change::tick_place(&mut *table, k);
-        late = store::either(late, x);
+        change::tick_place(&mut *table, k);
     }
-    if late {
+    store::advance(&mut *table);
+    if store::is_late(&*table) {
+        return Answer::Accepted;
+    }
+    if lateness::is_any_old(&*table) {
         store::set_late(&mut *table);
         return Answer::Accepted;
     }

@@ -1,39 +1,45 @@
-// The segment in its words: the node, the inbox and the age at each place, and whether an age has exceeded the limit.
-use crate::layout::AGE;
+// The segment in its words: the node, the inbox and the stamp at each place, the clock, and whether an age has exceeded the
+// limit.
+use crate::ages::Timed;
+use crate::ages::timed_by;
 use crate::layout::BLOCK;
+use crate::layout::CLOCK;
 use crate::layout::COUNT;
 use crate::layout::FIRST;
 use crate::layout::GENERATOR;
 use crate::layout::HOST;
 use crate::layout::HOST_BYTES;
 use crate::layout::LATE;
+use crate::layout::ROUND;
 use crate::layout::SLOTS;
+use crate::layout::STAMP;
 use crate::layout::STATE;
 use crate::layout::Table;
 use crate::layout::WORDS;
-use crate::pack::aged_word;
 use crate::pack::alias_in;
 use crate::pack::frame_at;
-use crate::pack::frame_word;
 use crate::pack::host_at;
 use crate::pack::host_bytes;
 use crate::pack::host_word;
 use crate::pack::is_off_in;
-use crate::pack::is_old;
 use crate::pack::phase_in;
+use crate::pack::reply_in;
+use crate::pack::stamp_in;
+use crate::pack::stamped_word;
 use crate::pack::state_word;
 use crate::pack::waiting_in;
 use node::frame::Frame;
 use node::state::Node;
+use node::state::Phase;
 ghost use mathlib.Core.Path.{_≡_};
-ghost use mathlib.Core.Bool.{false, not, _||_};
+ghost use mathlib.Core.Bool.{false, not};
 ghost use mathlib.Core.List.{[]};
 ghost use Prim.Native.Nat.{_<_};
-ghost use lib.ListN.{length};
+ghost use lib.ListN.{length, getD};
 ghost use Rattle.node.specs.Rules.{isOff};
-ghost use Rattle.table.specs.Rules.{places, place, hasRoom, isEmpty};
-ghost use Rattle.table.specs.Words.{slot, nodeAt, inbox, ageOf, placeAt, lateOf, Held, At, NodeStored, Fresh, Latched};
-ghost use Rattle.table.specs.Parts.{Taken, pushed, Aged};
+ghost use Rattle.table.specs.Rules.{places, place, timedOf, hasRoom, isEmpty};
+ghost use Rattle.table.specs.Words.{firstAt, stampAt, slot, stampIn, since, clockOf, nodeAt, inbox, timedAge, ageOf, placeAt, lateOf, Held, At, NodeStored, Fresh, Latched};
+ghost use Rattle.table.specs.Parts.{Taken, pushed, Advanced};
 
 // All nodes Off, no frame in an inbox, no age above the limit.
 pub(crate) fn new(t: &mut [u64; WORDS])
@@ -52,6 +58,21 @@ pub(crate) fn set_late(t: &mut [u64; WORDS])
     ensures { λ _. ⌜ (Held (now (t .entry)) → Latched (now (t .entry)) (now (t .exit))) ⌝ }
 {
     t[LATE] = 1;
+}
+
+// CLOCK
+
+pub(crate) fn clock(t: &[u64; WORDS]) -> u64
+    ensures { λ r. ⌜ r ≡ clockOf (now (t .entry)) ⌝ }
+{
+    t[CLOCK] % ROUND
+}
+
+// A tick later, for every age at once.
+pub(crate) fn advance(t: &mut [u64; WORDS])
+    ensures { λ _. ⌜ (Held (now (t .entry)) → Advanced (now (t .entry)) (now (t .exit))) ⌝ }
+{
+    t[CLOCK] = t[CLOCK] % ROUND + 1;
 }
 
 // NODES
@@ -99,31 +120,37 @@ pub(crate) fn is_off_at(t: &[u64; WORDS], k: usize) -> bool
     is_off_in(t[BLOCK * k + STATE])
 }
 
-// The age of the reply RID or AMR that waits.
-pub(crate) fn age_at(t: &[u64; WORDS], k: usize) -> u64
+pub(crate) fn phase_at(t: &[u64; WORDS], k: usize) -> Phase
     requires { ⌜ k < places ⌝ }
-    ensures { λ r. ⌜ r ≡ ageOf (now (t .entry)) k ⌝ }
+    ensures { λ r. ⌜ r ≡ nodeAt (now (t .entry)) k .phase ⌝ }
 {
-    t[BLOCK * k + AGE]
+    phase_in(t[BLOCK * k + STATE])
 }
 
-// The node n at place k, with the age g of what waits there.
-pub(crate) fn put(t: &mut [u64; WORDS], k: usize, n: Node, g: u64)
+pub(crate) fn timed_at(t: &[u64; WORDS], k: usize) -> Timed
     requires { ⌜ k < places ⌝ }
-    ensures { λ _. ⌜ (Held (now (t .entry)) → At (now (t .entry)) k (place n (inbox (now (t .entry)) k) g) (now (t .exit))) ⌝ }
+    ensures { λ r. ⌜ r ≡ timedOf (nodeAt (now (t .entry)) k) ⌝ }
+{
+    let w = t[BLOCK * k + STATE];
+    let p = phase_in(w);
+    timed_by(p, reply_in(w))
+}
+
+// The stamp of the reply RID or AMR that waits.
+pub(crate) fn stamp_at(t: &[u64; WORDS], k: usize) -> u64
+    requires { ⌜ k < places ⌝ }
+    ensures { λ r. ⌜ r ≡ getD (now (t .entry)) (stampAt k) 0 ⌝ }
+{
+    t[BLOCK * k + STAMP]
+}
+
+// The node n at place k, with the stamp s of what waits there.
+pub(crate) fn put(t: &mut [u64; WORDS], k: usize, n: Node, s: u64)
+    requires { ⌜ k < places ⌝ }
+    ensures { λ _. ⌜ (Held (now (t .entry)) → At (now (t .entry)) k (place n (inbox (now (t .entry)) k) (timedAge (timedOf n) (since (clockOf (now (t .entry))) s))) (now (t .exit))) ⌝ }
 {
     store_node(&mut *t, k, n);
-    t[BLOCK * k + AGE] = g;
-}
-
-// No frame in the inbox, and the age 0.
-pub(crate) fn clear(t: &mut [u64; WORDS], k: usize)
-    requires { ⌜ k < places ⌝ }
-    ensures { λ _. ⌜ (Held (now (t .entry)) → At (now (t .entry)) k (place (nodeAt (now (t .entry)) k) [] 0) (now (t .exit))) ⌝ }
-{
-    t[BLOCK * k + COUNT] = 0;
-    t[BLOCK * k + FIRST] = 0;
-    t[BLOCK * k + AGE] = 0;
+    t[BLOCK * k + STAMP] = s;
 }
 
 // INBOXES
@@ -149,6 +176,15 @@ pub(crate) fn is_empty_at(t: &[u64; WORDS], k: usize) -> bool
     count_at(t, k) == 0
 }
 
+// No frame in the inbox.
+pub(crate) fn clear(t: &mut [u64; WORDS], k: usize)
+    requires { ⌜ k < places ⌝ }
+    ensures { λ _. ⌜ (Held (now (t .entry)) → At (now (t .entry)) k (place (nodeAt (now (t .entry)) k) [] (ageOf (now (t .entry)) k)) (now (t .exit))) ⌝ }
+{
+    t[BLOCK * k + COUNT] = 0;
+    t[BLOCK * k + FIRST] = 0;
+}
+
 // The word where the slot starts that s stands for, round the ring.
 fn slot_of(k: usize, s: u64) -> usize
     requires { ⌜ k < places ⌝ }
@@ -166,7 +202,8 @@ pub(crate) fn push(t: &mut [u64; WORDS], k: usize, f: Frame)
     let first = t[BLOCK * k + FIRST] % Table::INBOX;
     if n < Table::INBOX {
         let q = slot_of(k, first + n);
-        let w = frame_word(f);
+        let c = clock(&*t);
+        let w = stamped_word(f, c);
         t[q] = w;
         t[q + 1] = f.bytes;
         t[BLOCK * k + COUNT] = n + 1;
@@ -190,32 +227,11 @@ pub(crate) fn take(t: &mut [u64; WORDS], k: usize) -> Frame
     f
 }
 
-pub(crate) fn either(a: bool, b: bool) -> bool
-    ensures { λ r. ⌜ r ≡ (a || b) ⌝ }
-{
-    if a {
-        return true;
-    }
-    b
-}
-
-// Every frame of the inbox is a tick older; whether one is then above the limit.
-pub(crate) fn older(t: &mut [u64; WORDS], k: usize) -> bool
+// The stamp of the first frame of the inbox.
+pub(crate) fn first_stamp(t: &[u64; WORDS], k: usize) -> u64
     requires { ⌜ k < places ⌝ }
-    ensures { λ r. ⌜ (Held (now (t .entry)) → Aged (now (t .entry)) k r (now (t .exit))) ⌝ }
+    ensures { λ r. ⌜ r ≡ stampIn (getD (now (t .entry)) (slot k (getD (now (t .entry)) (firstAt k) 0)) 0) ⌝ }
 {
-    let n = t[BLOCK * k + COUNT];
-    let first = t[BLOCK * k + FIRST] % Table::INBOX;
-    let mut late = false;
-    if Table::INBOX < n {
-        return late;
-    }
-    for j in 0..n {
-        let q = slot_of(k, first + j);
-        let w = aged_word(t[q]);
-        t[q] = w;
-        let o = is_old(w);
-        late = either(late, o);
-    }
-    late
+    let q = slot_of(k, t[BLOCK * k + FIRST]);
+    stamp_in(t[q])
 }

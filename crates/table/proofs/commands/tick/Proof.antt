@@ -1,26 +1,27 @@
-use Rattle.table.proofs.Ops.{Ticking, ticking-none, ticking-more, tick-young, tick-late}
-use Rattle.table.specs.Words.{Held}
+use Rattle.table.proofs.Rounds.{each-none, each-more}
+use Rattle.table.proofs.Ticked.{tick-after, tick-late, tick-young}
+use Rattle.table.specs.Words.{Held, lateOf}
 use Rattle.table.specs.Rules.{places}
+use Rattle.table.specs.Parts.{Each, ticked}
+use mathlib.Core.List.{List}
+use mathlib.Core.Path.{_≡_, refl, sym, subst, _∙_}
 use borrow.Author.Needs.{needs}
 use native.Mathlib.Omega.{arith}
-use Prim.Native.Nat.{_≤_, _-_}
+use Prim.Native.Nat.{ℕ, _≤_, _-_}
 use Rattle.table.proofs.commands.tick.Statement.{statement}
 use Rattle.table.proofs.commands.tick.Tie as tie
 
 abbrev Inv-loop : tie.InvT-loop
-Inv-loop table₀ late₀ k₀ table late k = (k ≤ places) × (Held table₀ → Ticking table₀ k table late)
+Inv-loop table₀ k₀ table k = (k ≤ places) × (Held table₀ → Each (λ j p. ticked p) table₀ k table)
 
 abbrev μ-loop : tie.MeasureT-loop
-μ-loop table₀ late₀ k₀ table late k = places - k
+μ-loop table₀ k₀ table k = places - k
 
 loop-holds : tie.Need-loop-holds Inv-loop μ-loop
-loop-holds c = (omega arith, λ h. ticking-none _ h)
+loop-holds c = (omega arith, λ h. each-none _ _ h)
 
 tick-place-requires : tie.Need-tick-place-requires Inv-loop μ-loop
 tick-place-requires c κs = omega arith
-
-either-requires : tie.Need-either-requires Inv-loop μ-loop
-either-requires c κs = search needs
 
 add-k : tie.Need-add-k Inv-loop μ-loop
 add-k c = omega arith
@@ -29,16 +30,44 @@ loop-less : tie.Need-loop-less Inv-loop μ-loop
 loop-less c = omega arith
 
 loop-again : tie.Need-loop-again Inv-loop μ-loop
-loop-again c = (omega arith, λ h. let T = c .before .before .before .before .loop .inv .1 h in ticking-more _ _ _ _ _ _ _ (c .before .before .before .loop-test .taken) T (c .before .tick-place .ensures (T .each .held)) (c .either .ensures))
+loop-again c = (omega arith, λ h. let E = c .before .before .before .loop .inv .1 h in each-more _ _ _ _ _ _ (c .before .before .loop-test .taken) E refl (c .tick-place .ensures (E .held)))
+
+advance-requires : tie.Need-advance-requires Inv-loop μ-loop
+advance-requires c κs = search needs
+
+is-late-requires : tie.Need-is-late-requires Inv-loop μ-loop
+is-late-requires c κs = search needs
+
+-- the loop has come to every place
+all : (t t₁ : List ℕ) (k : ℕ) → places ≤ k → k ≤ places → Each (λ j p. ticked p) t k t₁ → Each (λ j p. ticked p) t places t₁
+all t t₁ k lo hi E =
+    let e : k ≡ places = omega arith in
+    subst (λ (x : ℕ). Each (λ j p. ticked p) t x t₁) e E
+
+returns : tie.Need-returns Inv-loop μ-loop
+returns c = λ h.
+    let E = all _ _ _ (omega arith) (omega arith) (c .before .before .before .before .before .before .loop .inv .1 (h .held)) in
+    tick-after _ _ _ h E (c .before .before .before .advance .ensures (E .held)) (sym (c .before .is-late .ensures) ∙ c .if1 .taken)
+
+is-any-old-requires : tie.Need-is-any-old-requires Inv-loop μ-loop
+is-any-old-requires c κs = search needs
 
 set-late-requires : tie.Need-set-late-requires Inv-loop μ-loop
 set-late-requires c κs = search needs
 
-returns : tie.Need-returns Inv-loop μ-loop
-returns c = λ h. tick-late _ _ _ _ _ h (omega arith) (omega arith) (c .before .before .before .before .loop .inv .1 (h .held)) (c .before .before .if1 .taken) (c .set-late .ensures)
-
 returns-2 : tie.Need-returns-2 Inv-loop μ-loop
-returns-2 c = λ h. tick-young _ _ _ _ h (omega arith) (omega arith) (c .before .before .loop .inv .1 (h .held)) (c .if1 .left)
+returns-2 c = λ h.
+    let E = all _ _ _ (omega arith) (omega arith) (c .before .before .before .before .before .before .before .before .before .before .before .loop .inv .1 (h .held)) in
+    tick-late _ _ _ h E (c .before .before .before .before .before .before .before .before .advance .ensures (E .held)) _ _
+    (sym (c .before .before .before .before .before .before .is-late .ensures) ∙ c .before .before .before .before .before .if1 .left)
+    (c .before .before .before .is-any-old .ensures) (c .before .before .if2 .taken) (c .set-late .ensures)
+
+returns-3 : tie.Need-returns-3 Inv-loop μ-loop
+returns-3 c = λ h.
+    let E = all _ _ _ (omega arith) (omega arith) (c .before .before .before .before .before .before .before .before .before .loop .inv .1 (h .held)) in
+    tick-young _ _ _ h E (c .before .before .before .before .before .before .advance .ensures (E .held)) _
+    (sym (c .before .before .before .before .is-late .ensures) ∙ c .before .before .before .if1 .left)
+    (c .before .is-any-old .ensures) (c .if2 .left)
 
 pub tick-spec : {M : Type 1} → statement M
 tick-spec =
@@ -48,10 +77,13 @@ tick-spec =
     μ-loop
     loop-holds
     tick-place-requires
-    either-requires
     add-k
     loop-less
     loop-again
-    set-late-requires
+    advance-requires
+    is-late-requires
     returns
-    returns-2)
+    is-any-old-requires
+    set-late-requires
+    returns-2
+    returns-3)
