@@ -15,8 +15,8 @@ use Rattle.table.specs.Rules.{places, Item, Place, place, timedOf, agesO
 use Rattle.table.specs.Words.{stampAt, round, since, clockOf, nodeAt, inbox, timedAge, ageOf, placeAt, Held, At}
 use Rattle.table.specs.Parts.{SettledBy, stampOn, ticked}
 use Rattle.table.specs.Chain.{at-held, at-then, at-none}
-use Rattle.table.specs.Laws.{place-eq}
-use Rattle.table.proofs.Stamps.{timed-now, stamp-on, ages-stay, timed-tick}
+use Rattle.table.specs.Laws.{place-eq, timed-tick}
+use Rattle.table.proofs.Stamps.{timed-now, stamp-on, ages-stay}
 
 pub becomes-at : (t t′ : List ℕ) (k : ℕ) (n m : Node) (was is : Timed) (s₀ c s : ℕ) → n ≡ nodeAt t k → was ≡ timedOf n → is ≡ timedOf m
     → s₀ ≡ getD t (stampAt k) 0 → c ≡ clockOf t → s ≡ stampOn was is s₀ c

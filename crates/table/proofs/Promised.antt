@@ -3,7 +3,7 @@ use mathlib.Core.Path.{_≡_, refl, sym, ap, subst, _∙_}
 use mathlib.Core.Logic.{_≢_, ⊎-elim}
 use mathlib.Core.Bool.{Bool, true, false, _||_, _&&_}
 use mathlib.Core.List.{List, []}
-use Prim.Native.Nat.{ℕ, _<_, _≤_}
+use Prim.Native.Nat.{ℕ, _-_, _<_, _≤_}
 use native.Mathlib.Omega.{arith}
 use borrow.Author.Tests.{le-leb, lt-leb}
 use lib.ListN.{set}
@@ -12,14 +12,14 @@ use Rattle.node.specs.Rules.{Answer, accepted, refused, refuse, Value, Outcome}
 use Rattle.node.specs.Answers.{answerAs}
 use Rattle.node.specs.declared.answer.Answer as A
 use Rattle.node.specs.declared.state.Node.{Node}
-use Rattle.table.specs.Rules.{places, limit, Place, place, Places, blank, at, after, Command, indexed, answer, change, carry, stepBy, old}
-use Rattle.table.specs.Words.{nodeAt, inbox, placeAt, lateOf, view, Held, At}
+use Rattle.table.specs.Rules.{places, limit, Place, place, Places, blank, at, after, Command, indexed, answer, change, carry, stepBy, step, old}
+use Rattle.table.specs.Words.{nodeAt, inbox, placeAt, lateOf, calmOf, view, Held, At}
 use Rattle.table.specs.Parts.{SettledBy, Settled, Reset}
 use Rattle.table.specs.Laws.{at-same, length-carry}
-use Rattle.table.specs.Chain.{eq-or-ne, length-view, view-at, view-is, at-held, at-late, at-other as at-beside}
+use Rattle.table.specs.Chain.{eq-or-ne, length-view, view-at, view-is, at-held, at-late, at-calm, at-other as at-beside}
 use Rattle.table.specs.Bare.{bare}
-use Rattle.table.specs.Young.{isTick}
-use Rattle.table.specs.Done.{Sound, reaches, Done, sound-after}
+use Rattle.table.specs.Young.{isTick, young-step}
+use Rattle.table.specs.Done.{bound, Sound, reaches, Done, sound-after}
 
 pub or-false : (b : Bool) → b ≡ (b || false)
 or-false true = refl
@@ -52,13 +52,14 @@ refuses c t a number h ea e q = record {
 
 pub accepts : (c : Command) (t : List ℕ) (a : A.Answer) (v : Value) (t′ : List ℕ) → Sound t → answerAs a ≡ accepted v
     → answer (view t) c ≡ accepted v → Held t′ → lateOf t′ ≡ (lateOf t || reaches c (carry (view t) c))
-    → bare (view t′) ≡ bare (carry (view t) c) → (lateOf t ≡ false → view t′ ≡ carry (view t) c) → Done c t a t′
-accepts c t a v t′ s ea e h l b y = record {
+    → bare (view t′) ≡ bare (carry (view t) c) → (lateOf t ≡ false → view t′ ≡ carry (view t) c)
+    → (lateOf t′ ≡ false → old (bound t′) (bound t′) (view t′) ≡ false) → Done c t a t′
+accepts c t a v t′ s ea e h l b x y = record {
   answered = ea ∙ sym e;
   table = b ∙ ap bare (sym does);
   ages = seen;
   late = lateness;
-  sound = sound-after c t t′ s h seen lateness;
+  sound = sound-after c t t′ s h seen lateness y;
   unmoved = λ r q. never-both v r (sym ea ∙ q);
 }
   where
@@ -66,20 +67,26 @@ accepts c t a v t′ s ea e h l b y = record {
     does = ap (λ (x : Answer Value). stepBy x (view t) c) e
 
     seen : lateOf t ≡ false → view t′ ≡ stepBy (answer (view t) c) (view t) c
-    seen q = y q ∙ sym does
+    seen q = x q ∙ sym does
 
     lateness : lateOf t′ ≡ (lateOf t || reaches c (stepBy (answer (view t) c) (view t) c))
     lateness = l ∙ ap (λ (T : Places). lateOf t || reaches c T) (sym does)
 
 -- place by place, where it was no tick
 pub accepts-each : (c : Command) (t : List ℕ) (a : A.Answer) (v : Value) (t′ : List ℕ) → Sound t → answerAs a ≡ accepted v
-    → answer (view t) c ≡ accepted v → isTick c ≡ false → Held t′ → lateOf t′ ≡ lateOf t
+    → answer (view t) c ≡ accepted v → isTick c ≡ false → Held t′ → lateOf t′ ≡ lateOf t → calmOf t′ ≡ calmOf t
     → ((k : ℕ) → k < places → placeAt t′ k ≡ at (carry (view t) c) k) → Done c t a t′
-accepts-each c t a v t′ s ea e q h l p =
+accepts-each c t a v t′ s ea e q h l m p =
     accepts c t a v t′ s ea e h (l ∙ late-same c (lateOf t) (carry (view t) c) q) (ap bare seen) (λ y. seen)
+    (λ y.
+    (λ i. let b = limit - m i in old b b (does i))
+    ∙ young-step (bound t) (bound t) (view t) (s .young (sym l ∙ y)) c q)
   where
     seen : view t′ ≡ carry (view t) c
     seen = view-is t′ (carry (view t) c) (length-carry (view t) c ∙ length-view t) p
+
+    does : view t′ ≡ step (view t) c
+    does = seen ∙ sym (ap (λ (x : Answer Value). stepBy x (view t) c) e)
 
 -- ONE PLACE
 
@@ -87,7 +94,7 @@ pub at-done : (c : Command) (t : List ℕ) (i : ℕ) (a : A.Answer) (v : Value) 
     → answerAs a ≡ accepted v → answer (view t) c ≡ accepted v → isTick c ≡ false → carry (view t) c ≡ set (view t) i p
     → At t i p t′ → Done c t a t′
 at-done c t i a v p t′ h ea e q ek w =
-    accepts-each c t a v t′ h ea e q (at-held (h .held) w) (at-late w)
+    accepts-each c t a v t′ h ea e q (at-held (h .held) w) (at-late w) (at-calm w)
     (λ j hj. ⊎-elim
     (λ (r : j ≡ i).
     ap (placeAt t′) r ∙ w .this

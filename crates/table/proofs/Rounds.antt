@@ -1,24 +1,24 @@
--- Loops over the places: a change that comes to one after the other, and the search for a full inbox.
+-- Loops over the places: a change that comes to one after the other, the greatest age, and the search for a full inbox.
 use mathlib.Core.Path.{_≡_, refl, sym, ap, _∙_}
 use mathlib.Core.Logic.{_≢_, ⊎-elim}
 use mathlib.Core.Bool.{Bool, true, false, cond, _&&_}
 use mathlib.Core.List.{List, [], _∷_}
-use Prim.Native.Nat.{ℕ, zero, suc, _+_, _<_, _≤_}
+use Prim.Native.Nat.{ℕ, zero, suc, _+_, _<_, _≤_, max}
 use native.Mathlib.Nat.{le-of-suc-le-suc, not-suc-le-zero}
 use native.Mathlib.Omega.{arith}
 use borrow.Author.Tests.{eq-eqb, ne-eqb}
 use lib.ListN.{length}
 use Rattle.node.specs.Rules.{isOff}
 use Rattle.node.specs.declared.frame.Frame.{Frame}
-use Rattle.table.specs.Rules.{places, Place, Places, at, hasRoom, allRoom, roomBut}
+use Rattle.table.specs.Rules.{places, limit, Place, Places, at, hasRoom, allRoom, roomBut}
 use Rattle.table.specs.Words.{nodeAt, placeAt, Held, At}
-use Rattle.table.specs.Parts.{pushed, Each, broadcast}
-use Rattle.table.specs.Chain.{eq-or-ne, at-held, at-other, at-late, at-none}
+use Rattle.table.specs.Parts.{pushed, Each, broadcast, headAge, Oldest}
+use Rattle.table.specs.Chain.{lt-or-le, eq-or-ne, at-held, at-other, at-late, at-calm, at-none}
 
 -- ONE PLACE AFTER THE OTHER
 
 pub each-none : (g : ℕ → Place → Place) (t : List ℕ) → Held t → Each g t 0 t
-each-none g t h = record { held = h; done = λ k l. absurd (omega arith); left = λ k l r. refl; late = refl }
+each-none g t h = record { held = h; done = λ k l. absurd (omega arith); left = λ k l r. refl; late = refl; calm = refl }
 
 pub each-more : (g : ℕ → Place → Place) (t₀ : List ℕ) (i : ℕ) (t t′ t″ : List ℕ) → i < places → Each g t₀ i t → t″ ≡ t′
     → At t i (g i (placeAt t i)) t′ → Each g t₀ (i + 1) t″
@@ -32,6 +32,7 @@ each-more g t₀ i t t′ t″ hi h e a =
           (eq-or-ne k i);
       left = λ k l r. at-other a k (omega arith) ∙ h .left k l (omega arith);
       late = at-late a ∙ h .late;
+      calm = at-calm a ∙ h .calm;
     })
 
 -- A FRAME TO EACH
@@ -49,6 +50,23 @@ module _ (from : ℕ) (f : Frame) (k : ℕ) (t : List ℕ) where
       → At t k (broadcast from f k (placeAt t k)) t′
   unfolding broadcast
   to-on t′ ne e a = simp (ne-eqb k from ne, e) a
+
+-- THE GREATEST AGE
+
+pub oldest-none : (t : List ℕ) → Oldest t 0 0
+oldest-none t = record { most = λ k l. absurd (omega arith); some = λ h. absurd (omega arith) }
+
+pub oldest-more : (t : List ℕ) (i m g r : ℕ) → Oldest t i m → g ≡ headAge (placeAt t i) → r ≡ max m g → Oldest t (i + 1) r
+oldest-more t i m g r o eg er = record {
+  most = λ k l. ⊎-elim
+      (λ (e : k ≡ i). let s : headAge (placeAt t k) ≡ g = ap (λ (j : ℕ). headAge (placeAt t j)) e ∙ sym eg in omega arith)
+      (λ (ne : k ≢ i). omega (arith, o .most k (omega arith)))
+      (eq-or-ne k i);
+  some = λ h. ⊎-elim
+      (λ (l : limit < m). let (k, hk, w) = o .some l in (k, omega arith, w))
+      (λ (l : m ≤ limit). (i, omega arith, omega (arith, eg, er)))
+      (lt-or-le limit m);
+}
 
 -- ROOM IN EACH
 

@@ -20,7 +20,7 @@ use Rattle.table.specs.Rules.{places, item, Place, place, Places, blank,
 use Rattle.table.specs.Words.{nodeAt, inbox, ageOf, placeAt, view, Held, At}
 use Rattle.table.specs.Parts.{pushed, Each, broadcast}
 use Rattle.table.specs.Laws.{place-eq, at-same, at-map, joins-blank}
-use Rattle.table.specs.Chain.{eq-or-ne, length-view, view-at, at-held, at-late, at-other as at-beside}
+use Rattle.table.specs.Chain.{eq-or-ne, length-view, view-at, at-held, at-late, at-calm, at-other as at-beside}
 use Rattle.table.specs.Done.{Sound, Done}
 use Rattle.table.proofs.Rounds.{room-all, room-but, no-room, no-room-but}
 use Rattle.table.proofs.Promised.{refuses, accepts-each, with-index}
@@ -92,6 +92,7 @@ module _ (t : List ℕ) (sound : Sound t) where
       refl
       (at-held (k .held) a)
       (at-late a ∙ k .late)
+      (at-calm a ∙ k .calm)
       (λ j hj. ⊎-elim (λ (q : j ≡ i). this j q) (λ (ne : j ≢ i). other j hj ne) (eq-or-ne j i))
     where
       own : placeAt t₁ i ≡ placeAt t i
@@ -154,6 +155,7 @@ module _ (t : List ℕ) (sound : Sound t) where
       refl
       (k .held)
       (k .late)
+      (k .calm)
       (λ j hj.
       let ne : j ≢ places = omega arith in
       k .done j hj ∙ reached places g j ne (free j hj ne) ∙ ap (λ (x : Frame). joins x (placeAt t j)) eg ∙ sym (joins-at (trimmed f) j hj))

@@ -1,16 +1,10 @@
 -- Ages by the clock and stamps: what an event, a tick and a broadcast make of them.
 use mathlib.Core.Path.{_≡_, refl, sym, ap, _∙_}
 use Prim.Native.Nat.{ℕ, _+_, _-_, _%_, _<_}
-use mathlib.Core.Bool.{Bool, true, false, cond}
 use native.Mathlib.Omega.{arith}
-use lib.Dec.{ltb}
-use Rattle.node.specs.Rules.{wait, moved, tickAt, tickOf}
-use Rattle.node.specs.declared.state.Node.{Node}
-use Rattle.node.specs.declared.state.Phase.{Phase}
-use Rattle.node.specs.declared.state.Phase.the-variants.{Off, Testing, Reserved, Permitted, Leaving, Resting, Silent}
 use Rattle.table.specs.declared.ages.Timed.{Timed}
 use Rattle.table.specs.declared.ages.Timed.the-variants.{Untimed, Reply, Amr}
-use Rattle.table.specs.Rules.{limit, timedAt, timedOf, agesOn, timedOld}
+use Rattle.table.specs.Rules.{agesOn}
 use Rattle.table.specs.Words.{round, since, timedAge}
 use Rattle.table.specs.Parts.{stampOn, later, laterTimed}
 
@@ -61,27 +55,3 @@ pub timed-later : (a : Timed) (g : ℕ) → timedAge a (later g) ≡ laterTimed 
 timed-later Untimed g = refl
 timed-later Reply g = refl
 timed-later Amr g = refl
-
-pub timed-old : (a : Timed) (g : ℕ) → timedOld limit limit a g ≡ timedOld limit limit a (timedAge a g)
-timed-old Untimed g = refl
-timed-old Reply g = refl
-timed-old Amr g = refl
-
--- a tick makes nothing wait that has an age
-pub timed-tick : (n : Node) → timedOf (tickOf n) ≡ timedOf n
-unfolding tickOf moved
-timed-tick n = go (n .phase) refl
-  where
-    go : (p : Phase) → n .phase ≡ p → timedOf (tickAt p n) ≡ timedOf n
-    go Off e = refl
-    go (Testing sent ticks) e = test (ltb sent 4) (ltb ticks wait)
-      where
-        test : (a b : Bool) → timedOf (cond a n (cond b (moved n (Testing sent (ticks + 1))) n)) ≡ timedOf n
-        test true b = refl
-        test false true = λ i. timedAt (sym e i) (n .waiting .reply)
-        test false false = refl
-    go Reserved e = refl
-    go Permitted e = refl
-    go (Leaving why) e = refl
-    go Resting e = refl
-    go Silent e = refl

@@ -1,4 +1,4 @@
--- What stores do to the words: a node with its stamp, the late word, the clock.
+-- What stores do to the words: a node with its stamp, the late word, the clock, the calm.
 use mathlib.Core.Path.{_≡_, refl, sym, ap, _∙_}
 use mathlib.Core.Logic.{_≢_}
 use Prim.Native.Nat.{ℕ, zero, suc, _+_, _*_, _%_, _<_, _≤_}
@@ -9,7 +9,7 @@ use lib.ListN.{length, getD, set, length-set, replicate, length-replicate, getD-
 use lib.Seq.{getD-set-same, getD-set-other}
 use Rattle.node.specs.Rules.{offNode}
 use Rattle.node.specs.declared.state.Node.{Node}
-use Rattle.table.specs.Rules.{places, item, place, blank, start, timedOf}
+use Rattle.table.specs.Rules.{places, limit, item, place, blank, start, timedOf}
 use Rattle.table.specs.Words.{
   block,
   words,
@@ -19,6 +19,7 @@ use Rattle.table.specs.Words.{
   slot,
   lateAt,
   clockAt,
+  calmAt,
   frameFrom,
   round,
   stampIn,
@@ -37,13 +38,14 @@ use Rattle.table.specs.Words.{
   inbox,
   timedAge,
   placeAt,
+  calmOf,
   Held,
   At,
   NodeStored,
   Fresh,
   Latched,
 }
-use Rattle.table.specs.Parts.{later, laterItem, laterPlace, Advanced}
+use Rattle.table.specs.Parts.{later, laterItem, laterPlace, Advanced, Calmed}
 use Rattle.table.specs.Chain.{place-ext, node-ext, inbox-ext, view-is}
 use Rattle.table.specs.Laws.{place-eq}
 use Rattle.table.proofs.Rings.{inbox-none}
@@ -160,20 +162,32 @@ module _ (t : List ℕ) (j x : ℕ) (h : Held t) (past : lateAt ≤ j) where
   beyond : (q : ℕ) → q ≢ j → getD (set t j x) q 0 ≡ getD t q 0
   beyond q ne = getD-set-other t j q x 0 ne
 
-  beyond-held : Held (set t j x)
-  beyond-held = record {
+  beyond-held : calmOf (set t j x) ≤ limit → Held (set t j x)
+  beyond-held m = record {
     long = length-set t j x ∙ h .long;
     few = λ k hk. omega (arith, beyond (countAt k) (omega arith), h .few k hk);
     ring = λ k hk. omega (arith, beyond (firstAt k) (omega arith), h .ring k hk);
+    calm = m;
   }
 
+  beyond-place : j ≢ clockAt → (k : ℕ) → k < places → placeAt (set t j x) k ≡ placeAt t k
+  beyond-place ne k hk = place-ext t (set t j x) k (beyond clockAt (omega (arith, ne))) (λ q a b. beyond q (omega arith))
+
 pub latched : (t : List ℕ) → Held t → Latched t (set t lateAt 1)
-latched t h =
-    let other = beyond t lateAt 1 h (omega arith) in
+latched t h = record {
+  held = beyond-held t lateAt 1 h (omega arith) (omega (arith, beyond t lateAt 1 h (omega arith) calmAt (omega arith), h .calm));
+  late = ap (λ (x : ℕ). eqb x 1) (getD-set-same t lateAt 1 0 (omega (arith, h .long)));
+  same = beyond-place t lateAt 1 h (omega arith) (omega arith);
+}
+
+pub calmed : (t : List ℕ) (n : ℕ) → Held t → n ≤ limit → Calmed t n (set t calmAt n)
+calmed t n h l =
+    let is : calmOf (set t calmAt n) ≡ n = getD-set-same t calmAt n 0 (omega (arith, h .long)) in
     record {
-      held = beyond-held t lateAt 1 h (omega arith);
-      late = ap (λ (x : ℕ). eqb x 1) (getD-set-same t lateAt 1 0 (omega (arith, h .long)));
-      same = λ k hk. place-ext t (set t lateAt 1) k (other clockAt (omega arith)) (λ q a b. other q (omega arith));
+      held = beyond-held t calmAt n h (omega arith) (omega (arith, is));
+      late = ap (λ (x : ℕ). eqb x 1) (beyond t calmAt n h (omega arith) lateAt (omega arith));
+      calm = is;
+      same = beyond-place t calmAt n h (omega arith) (omega arith);
     }
 
 -- the clock goes on
@@ -219,8 +233,9 @@ module _ (t : List ℕ) (h : Held t) where
 
   pub advanced : Advanced t (set t clockAt (getD t clockAt 0 % round + 1))
   advanced = record {
-    held = beyond-held t clockAt (getD t clockAt 0 % round + 1) h (omega arith);
+    held = beyond-held t clockAt (getD t clockAt 0 % round + 1) h (omega arith) (omega (arith, beside calmAt (omega arith), h .calm));
     late = ap (λ (x : ℕ). eqb x 1) (beside lateAt (omega arith));
+    calm = beside calmAt (omega arith);
     same = place-on;
   }
 
@@ -233,6 +248,7 @@ zeros t l z = record {
     long = l;
     few = λ k hk. omega (arith, z (countAt k) (omega arith));
     ring = λ k hk. omega (arith, z (firstAt k) (omega arith));
+    calm = omega (arith, z calmAt (omega arith));
   };
   late = ap (λ (x : ℕ). eqb x 1) (z lateAt (omega arith));
   table = view-is t start refl (λ k hk. empty k hk ∙ sym (getD-replicate places k blank blank hk));

@@ -1,28 +1,28 @@
--- The promise of a tick, from what its parts did: each node ticks, the clock goes on, and the first frames tell lateness.
+-- The promise of a tick, from what its parts did: each node ticks, the clock goes on, and the greatest age tells lateness.
 use mathlib.Core.Path.{_≡_, refl, sym, ap, subst, _∙_}
-use mathlib.Core.Bool.{Bool, true, false, _||_}
+use mathlib.Core.Logic.{⊎-elim}
+use mathlib.Core.Bool.{Bool, true, false, true≢false, _||_}
 use mathlib.Core.List.{List, [], _∷_, map}
-use Prim.Native.Nat.{ℕ, zero, suc, _+_, _%_, _<_, _≤_}
+use Prim.Native.Nat.{ℕ, zero, suc, _+_, _-_, _%_, _<_, _≤_}
 use native.Mathlib.Nat.{le-of-suc-le-suc, not-suc-le-zero}
 use native.Mathlib.Omega.{arith}
 use lib.Dec.{ltb}
-use borrow.Author.Tests.{ltb-false}
-use lib.ListN.{length, length-map}
+use borrow.Author.Tests.{lt-ltb, ltb-false}
+use lib.ListN.{length, getD, length-map}
 use Rattle.node.specs.Laws.{neither}
 use Rattle.node.specs.Rules.{done, tickOf}
 use Rattle.node.specs.declared.answer.Answer as A
 use Rattle.table.specs.declared.ages.Timed.{Timed}
 use Rattle.table.specs.declared.ages.Timed.the-variants.{Untimed, Reply, Amr}
 use Rattle.table.specs.Rules.{places, limit, Item, item, Place, place, Places, at, timedOf, tick, older, tickAge, placeTick, anyOld, timedOld, oldPlace, old}
-use Rattle.table.specs.Words.{round, placeAt, lateOf, view, Held, Latched}
-use Rattle.table.specs.Parts.{Each, ticked, later, laterItem, laterTimed, laterPlace, Advanced, headOld, OldSome}
-use Rattle.table.specs.Laws.{place-eq, at-map, tick-blank}
-use Rattle.table.specs.Chain.{length-view, view-at, view-is}
+use Rattle.table.specs.Words.{stampAt, round, since, clockOf, nodeAt, inbox, timedAge, ageOf, placeAt, lateOf, calmOf, view, Held, Latched}
+use Rattle.table.specs.Parts.{Each, ticked, later, laterItem, laterTimed, laterPlace, Advanced, Calmed, firstAge, headAge, Oldest}
+use Rattle.table.specs.Laws.{place-eq, at-map, tick-blank, timed-tick}
+use Rattle.table.specs.Chain.{lt-or-le, length-view, view-at, view-is}
 use Rattle.table.specs.Bare.{bareItem, barePlace, bare, bare-ext}
-use Rattle.table.specs.Falling.{Falling, head-tells, falls-step}
-use Rattle.table.specs.Young.{young-at}
-use Rattle.table.specs.Done.{Sound, Done}
-use Rattle.table.proofs.Stamps.{timed-tick}
+use Rattle.table.specs.Falling.{Falling, head-young, falls-step}
+use Rattle.table.specs.Young.{young-at, tick-young, wider-young}
+use Rattle.table.specs.Done.{bound, Sound, Done}
 use Rattle.table.proofs.Promised.{accepts}
 
 -- ONE PLACE, by the clock and by the rules
@@ -59,18 +59,37 @@ young-later p e =
 
 -- ALL OF THEM
 
+or-true : (b : Bool) → (b || true) ≡ true
+or-true true = refl
+or-true false = refl
+
 old-some : (T : Places) (k : ℕ) → k < length T → oldPlace limit limit (at T k) ≡ true → old limit limit T ≡ true
 old-some [] k h e = absurd (not-suc-le-zero h)
 old-some (p ∷ T) zero h e = ap (λ (b : Bool). b || old limit limit T) e
 old-some (p ∷ T) (suc k) h e = ap (λ (b : Bool). oldPlace limit limit p || b) (old-some T k (le-of-suc-le-suc h) e) ∙ or-true (oldPlace limit limit p)
-  where
-    or-true : (b : Bool) → (b || true) ≡ true
-    or-true true = refl
-    or-true false = refl
 
-old-none : (T : Places) → ((k : ℕ) → k < length T → oldPlace limit limit (at T k) ≡ false) → old limit limit T ≡ false
-old-none [] h = refl
-old-none (p ∷ T) h = λ i. h 0 (omega arith) i || old-none T (λ k hk. h (suc k) (omega arith)) i
+old-none : (b : ℕ) (T : Places) → ((k : ℕ) → k < length T → oldPlace b b (at T k) ≡ false) → old b b T ≡ false
+old-none b [] h = refl
+old-none b (p ∷ T) h = λ i. h 0 (omega arith) i || old-none b T (λ k hk. h (suc k) (omega arith)) i
+
+-- an age above the limit, of the first frame or of what waits
+first-old : (xs : List Item) → limit < firstAge xs → anyOld limit limit xs ≡ true
+first-old [] h = absurd (not-suc-le-zero h)
+first-old (x ∷ xs) h = ap (λ (b : Bool). b || anyOld limit limit xs) (lt-ltb limit (x .age) h)
+
+waiting-old : (a : Timed) (g : ℕ) → limit < timedAge a g → timedOld limit limit a (timedAge a g) ≡ true
+waiting-old Untimed g h = absurd (not-suc-le-zero h)
+waiting-old Reply g h = lt-ltb limit g h
+waiting-old Amr g h = lt-ltb limit g h
+
+head-old : (t : List ℕ) (k : ℕ) → limit < headAge (placeAt t k) → oldPlace limit limit (placeAt t k) ≡ true
+head-old t k h =
+    ⊎-elim
+    (λ (l : limit < firstAge (inbox t k)). ap (λ (b : Bool). b || timedOld limit limit (timedOf (nodeAt t k)) (ageOf t k)) (first-old (inbox t k) l))
+    (λ (l : firstAge (inbox t k) ≤ limit).
+    ap (λ (b : Bool). anyOld limit limit (inbox t k) || b) (waiting-old (timedOf (nodeAt t k)) (since (clockOf t) (getD t (stampAt k) 0)) (omega arith))
+    ∙ or-true (anyOld limit limit (inbox t k)))
+    (lt-or-le limit (firstAge (inbox t k)))
 
 module _ (t t₁ t₂ : List ℕ) (s : Sound t) (E : Each (λ j p. ticked p) t places t₁) (go : Advanced t₁ t₂) where
   now-at : (k : ℕ) → k < places → placeAt t₂ k ≡ laterPlace (ticked (placeAt t k))
@@ -85,10 +104,14 @@ module _ (t t₁ t₂ : List ℕ) (s : Sound t) (E : Each (λ j p. ticked p) t p
   same-late : lateOf t₂ ≡ lateOf t
   same-late = go .late ∙ E .late
 
+  -- no age exceeds the limit before
+  young : lateOf t ≡ false → old limit limit (view t) ≡ false
+  young y = wider-young (bound t) limit (omega arith) (view t) (s .young y)
+
   exact : lateOf t ≡ false → view t₂ ≡ map placeTick (view t)
   exact y =
       view-is t₂ (map placeTick (view t)) many (λ k hk.
-      now-at k hk ∙ young-later (placeAt t k) (ap (oldPlace limit limit) (sym (view-at t k hk)) ∙ young-at limit limit (view t) k (s .young y))
+      now-at k hk ∙ young-later (placeAt t k) (ap (oldPlace limit limit) (sym (view-at t k hk)) ∙ young-at limit limit (view t) k (young y))
       ∙ sym (rules-at k hk))
 
   without : bare (view t₂) ≡ bare (map placeTick (view t))
@@ -97,39 +120,72 @@ module _ (t t₁ t₂ : List ℕ) (s : Sound t) (E : Each (λ j p. ticked p) t p
       let hk : k < places = omega (arith, length-view t₂) in
       ap barePlace (view-at t₂ k hk ∙ now-at k hk) ∙ bare-later (placeAt t k) ∙ ap barePlace (sym (rules-at k hk)))
 
-  -- whether an age exceeds the limit then
-  tells : lateOf t ≡ false → (k : ℕ) → k < places → oldPlace limit limit (at (map placeTick (view t)) k) ≡ headOld (placeAt t₂ k)
-  tells y k hk =
-      let e : placeAt t₂ k ≡ at (map placeTick (view t)) k = sym (view-at t₂ k hk) ∙ ap (λ (T : Places). at T k) (exact y) in
-      sym (head-tells (at (map placeTick (view t)) k) (falls-step (view t) (s .falling y) tick k)) ∙ ap headOld (sym e)
+  -- the greatest age tells
 
-  reached : lateOf t ≡ false → (r : Bool) → OldSome t₂ r → old limit limit (map placeTick (view t)) ≡ r
-  reached y true o =
-      let (k, hk, e) = o .some refl in
-      old-some (map placeTick (view t)) k (omega (arith, many)) (tells y k hk ∙ e)
-  reached y false o =
-      old-none (map placeTick (view t)) (λ k h.
-      let hk : k < places = omega (arith, many) in
-      tells y k hk ∙ o .none refl k hk)
+  rules-view : lateOf t ≡ false → (k : ℕ) → k < places → at (map placeTick (view t)) k ≡ placeAt t₂ k
+  rules-view y k hk = ap (λ (T : Places). at T k) (sym (exact y)) ∙ view-at t₂ k hk
+
+  all-young : lateOf t ≡ false → (b : ℕ) → ((k : ℕ) → k < places → headAge (placeAt t₂ k) ≤ b) → old b b (view t₂) ≡ false
+  all-young y b m =
+      old-none b (view t₂) (λ k h.
+      let hk : k < places = omega (arith, length-view t₂) in
+      ap (oldPlace b b) (view-at t₂ k hk)
+      ∙ head-young b (placeAt t₂ k) (subst Falling (rules-view y k hk) (falls-step (view t) (s .falling y) tick k)) (m k hk))
+
+  one-old : (k : ℕ) → k < places → limit < headAge (placeAt t₂ k) → old limit limit (view t₂) ≡ true
+  one-old k hk h = old-some (view t₂) k (omega (arith, length-view t₂)) (ap (oldPlace limit limit) (view-at t₂ k hk) ∙ head-old t₂ k h)
+
+  -- THE PROMISE
 
   tick-done : (t₃ : List ℕ) → Held t₃ → ((k : ℕ) → k < places → placeAt t₃ k ≡ placeAt t₂ k)
-      → lateOf t₃ ≡ (lateOf t || old limit limit (map placeTick (view t))) → Done tick t A.the-variants.Accepted t₃
-  tick-done t₃ h same l =
+      → lateOf t₃ ≡ (lateOf t || old limit limit (map placeTick (view t))) → (lateOf t₃ ≡ false → old (bound t₃) (bound t₃) (view t₂) ≡ false)
+      → Done tick t A.the-variants.Accepted t₃
+  tick-done t₃ h same l q =
       let e : view t₃ ≡ view t₂ = view-is t₃ (view t₂) (length-view t₂) (λ k hk. same k hk ∙ sym (view-at t₂ k hk)) in
       accepts tick t A.the-variants.Accepted done t₃ s refl refl h l (ap bare e ∙ without) (λ y. e ∙ exact y)
+      (λ y. ap (old (bound t₃) (bound t₃)) e ∙ q y)
 
-  -- late before, late now, or not late
+  -- late before
   pub tick-after : lateOf t₂ ≡ true → Done tick t A.the-variants.Accepted t₂
   tick-after l =
       tick-done t₂ (go .held) (λ k hk. refl) (l ∙ ap (λ (b : Bool). b || old limit limit (map placeTick (view t))) (sym l ∙ same-late))
+      (λ y. absurd (true≢false (sym l ∙ y)))
 
-  pub tick-late : (r : Bool) (t₃ : List ℕ) → lateOf t₂ ≡ false → OldSome t₂ r → r ≡ true → (Held t₂ → Latched t₂ t₃) → Done tick t A.the-variants.Accepted t₃
-  tick-late r t₃ l o e w =
-      let L = w (go .held) in
-      let y : lateOf t ≡ false = sym same-late ∙ l in
-      tick-done t₃ (L .held) (L .same) (L .late ∙ sym (λ i. y i || (reached y r o ∙ e) i))
+  module _ (l : lateOf t₂ ≡ false) where
+    was : lateOf t ≡ false
+    was = sym same-late ∙ l
 
-  pub tick-young : (r : Bool) → lateOf t₂ ≡ false → OldSome t₂ r → r ≡ false → Done tick t A.the-variants.Accepted t₂
-  tick-young r l o e =
-      let y : lateOf t ≡ false = sym same-late ∙ l in
-      tick-done t₂ (go .held) (λ k hk. refl) (l ∙ sym (λ i. y i || (reached y r o ∙ e) i))
+    -- the same, whether an age has come to exceed the limit
+    now : (b : Bool) → old limit limit (view t₂) ≡ b → b ≡ (lateOf t || old limit limit (map placeTick (view t)))
+    now b e = sym (λ i. was i || (ap (old limit limit) (sym (exact was)) ∙ e) i)
+
+    -- calm: no age can have
+    pub tick-calm : (n : ℕ) (t₃ : List ℕ) → n ≡ calmOf t₂ → 0 < n → (Held t₂ → n - 1 ≤ limit → Calmed t₂ (n - 1) t₃)
+        → Done tick t A.the-variants.Accepted t₃
+    tick-calm n t₃ en some w =
+        tick-done t₃ (C .held) (C .same) (C .late ∙ l ∙ now false (wider-young (bound t + 1) limit (omega (arith, same-calm, en, go .held .calm)) (view t₂) then))
+        (λ y. ap (λ (b : ℕ). old b b (view t₂)) (omega (arith, C .calm, same-calm, en, go .held .calm)) ∙ then)
+      where
+        C : Calmed t₂ (n - 1) t₃
+        C = w (go .held) (omega (arith, en, go .held .calm))
+
+        same-calm : calmOf t₂ ≡ calmOf t
+        same-calm = go .calm ∙ E .calm
+
+        then : old (bound t + 1) (bound t + 1) (view t₂) ≡ false
+        then = ap (old (bound t + 1) (bound t + 1)) (exact was) ∙ tick-young (bound t) (view t) (s .young was)
+
+    -- the greatest age exceeds the limit, or it does not
+    module _ (r : ℕ) (t₃ : List ℕ) (o : Oldest t₂ places r) where
+      pub tick-late : limit < r → (Held t₂ → Latched t₂ t₃) → Done tick t A.the-variants.Accepted t₃
+      tick-late h w =
+          let L = w (go .held) in
+          let (k, hk, g) = o .some h in
+          tick-done t₃ (L .held) (L .same) (L .late ∙ now true (one-old k hk g)) (λ y. absurd (true≢false (sym (L .late) ∙ y)))
+
+      pub tick-kept : r ≤ limit → (Held t₂ → limit - r ≤ limit → Calmed t₂ (limit - r) t₃) → Done tick t A.the-variants.Accepted t₃
+      tick-kept h w =
+          let C = w (go .held) (omega arith) in
+          tick-done t₃ (C .held) (C .same)
+          (C .late ∙ l ∙ now false (all-young was limit (λ k hk. omega (arith, o .most k hk))))
+          (λ y. ap (λ (b : ℕ). old b b (view t₂)) (omega (arith, C .calm)) ∙ all-young was r (o .most))

@@ -20,6 +20,7 @@ use Rattle.table.specs.Words.{
   slot,
   lateAt,
   clockAt,
+  calmAt,
   round,
   since,
   timedAge,
@@ -32,6 +33,7 @@ use Rattle.table.specs.Words.{
   ageOf,
   placeAt,
   lateOf,
+  calmOf,
   row,
   view,
   Held,
@@ -131,6 +133,9 @@ at-word {k = k} a j q ne l r =
 pub at-clock : {t t′ : List ℕ} {k : ℕ} {p : Place} → At t k p t′ → getD t′ clockAt 0 ≡ getD t clockAt 0
 at-clock a = a .above clockAt (omega (arith, a .inside))
 
+pub at-calm : {t t′ : List ℕ} {k : ℕ} {p : Place} → At t k p t′ → calmOf t′ ≡ calmOf t
+at-calm a = a .above calmAt (omega (arith, a .inside))
+
 pub at-same : {t t′ : List ℕ} {k : ℕ} {p : Place} → At t k p t′ → placeAt t′ k ≡ p
 at-same a = a .this
 
@@ -148,6 +153,7 @@ at-held {t} {t′} {k} h a = record {
       (λ (e : j ≡ k). omega (arith, ap (λ (x : ℕ). getD t′ (firstAt x) 0) e, a .ring))
       (λ (ne : j ≢ k). omega (arith, at-word a j (firstAt j) ne (omega arith) (omega arith), h .ring j hj))
       (eq-or-ne j k);
+  calm = omega (arith, at-calm a, h .calm);
 }
 
 pub at-late : {t t′ : List ℕ} {k : ℕ} {p : Place} → At t k p t′ → lateOf t′ ≡ lateOf t

@@ -2,23 +2,27 @@
 use mathlib.Core.Path.{_≡_, sym, ap, subst, _∙_}
 use mathlib.Core.Bool.{Bool, true, false, _||_, _&&_}
 use mathlib.Core.List.{List}
-use Prim.Native.Nat.{ℕ}
+use Prim.Native.Nat.{ℕ, _-_}
 use Rattle.node.specs.Laws.{neither}
 use Rattle.node.specs.Rules.{refused, offNode}
 use Rattle.node.specs.Answers.{answerAs}
 use Rattle.node.specs.declared.answer.Answer as A
 use Rattle.table.specs.Rules.{limit, Places, at, Command, answer, step, old}
-use Rattle.table.specs.Words.{lateOf, view, Held, Fresh}
+use Rattle.table.specs.Words.{lateOf, calmOf, view, Held, Fresh}
 use Rattle.table.specs.Laws.{at-start}
 use Rattle.table.specs.Bare.{bare}
 use Rattle.table.specs.Falling.{Falling, falls-step}
-use Rattle.table.specs.Young.{isTick, tick-tells}
+use Rattle.table.specs.Young.{isTick}
+
+-- Until an age has exceeded the limit, none exceeds this.
+abbrev pub bound : List ℕ → ℕ
+bound t = limit - calmOf t
 
 -- What holds of the words all Off, and of those that any command left: counts in range; and until an age has exceeded the
--- limit, none does, and no frame in an inbox is older than the one before it.
+-- limit, none exceeds the bound, and no frame in an inbox is older than the one before it.
 pub record Sound (t : List ℕ) : Type 0 where
   pub held : Held t
-  pub young : lateOf t ≡ false → old limit limit (view t) ≡ false
+  pub young : lateOf t ≡ false → old (bound t) (bound t) (view t) ≡ false
   pub falling : lateOf t ≡ false → (k : ℕ) → Falling (at (view t) k)
 
 -- Ages grow in a tick alone.
@@ -41,23 +45,19 @@ Does c t a t′ = Sound t → Done c t a t′
 
 -- Words stay sound where ages and lateness are as promised.
 pub sound-after : (c : Command) (t t′ : List ℕ) → Sound t → Held t′ → (lateOf t ≡ false → view t′ ≡ step (view t) c)
-    → lateOf t′ ≡ (lateOf t || reaches c (step (view t) c)) → Sound t′
-sound-after c t t′ s h e l = record {
+    → lateOf t′ ≡ (lateOf t || reaches c (step (view t) c)) → (lateOf t′ ≡ false → old (bound t′) (bound t′) (view t′) ≡ false) → Sound t′
+sound-after c t t′ s h e l y = record {
   held = h;
-  young = λ y. ap (old limit limit) (e (before y)) ∙ sym (tick-tells limit limit (view t) (s .young (before y)) c) ∙ within y;
-  falling = λ y. subst (λ (T : Places). (k : ℕ) → Falling (at T k)) (sym (e (before y))) (falls-step (view t) (s .falling (before y)) c);
+  young = y;
+  falling = λ q.
+      let b = neither (lateOf t) (reaches c (step (view t) c)) (sym l ∙ q) .0 in
+      subst (λ (T : Places). (k : ℕ) → Falling (at T k)) (sym (e b)) (falls-step (view t) (s .falling b) c);
 }
-  where
-    before : lateOf t′ ≡ false → lateOf t ≡ false
-    before y = neither (lateOf t) (reaches c (step (view t) c)) (sym l ∙ y) .0
-
-    within : lateOf t′ ≡ false → reaches c (step (view t) c) ≡ false
-    within y = neither (lateOf t) (reaches c (step (view t) c)) (sym l ∙ y) .1
 
 pub fresh-sound : {t : List ℕ} → Fresh t → Sound t
 unfolding offNode
-fresh-sound f = record {
+fresh-sound {t} f = record {
   held = f .held;
-  young = λ y. ap (old limit limit) (f .table);
+  young = λ y. ap (old (bound t) (bound t)) (f .table);
   falling = λ y. subst (λ (T : Places). (k : ℕ) → Falling (at T k)) (sym (f .table)) (λ k. subst Falling (sym (at-start k)) tt);
 }

@@ -1,17 +1,17 @@
 -- What the parts of the commands do to a place.
 use mathlib.Core.Path.{_≡_}
 use mathlib.Core.Logic.{_≢_}
-use Prim.Native.Nat.{ℕ, _+_, _%_, _<_, _≤_}
-use mathlib.Core.Bool.{Bool, true, false, cond, _||_}
+use Prim.Native.Nat.{ℕ, _+_, _%_, _<_, _≤_, max}
+use mathlib.Core.Bool.{Bool, true, false, cond}
 use mathlib.Core.List.{List, [], _∷_, _++_, map}
-use lib.Dec.{ltb, eqb}
+use lib.Dec.{eqb}
 use Rattle.node.specs.declared.frame.Frame.{Frame}
 use Rattle.node.specs.Rules.{Answer, accepted, refused, Value, Outcome, isOff, tickOf}
 use Rattle.node.specs.declared.state.Node.{Node}
 use Rattle.table.specs.declared.ages.Timed.{Timed}
 use Rattle.table.specs.declared.ages.Timed.the-variants.{Untimed, Reply, Amr}
-use Rattle.table.specs.Rules.{places, limit, Item, item, Place, place, timedOf, after, hasRoom, timedOld}
-use Rattle.table.specs.Words.{round, nodeAt, inbox, ageOf, placeAt, lateOf, Held, At}
+use Rattle.table.specs.Rules.{places, limit, Item, item, Place, place, timedOf, after, hasRoom}
+use Rattle.table.specs.Words.{round, nodeAt, inbox, ageOf, placeAt, lateOf, calmOf, Held, At}
 
 -- The first frame of inbox k, r, has left it.
 pub record Taken (t : List ℕ) (k : ℕ) (r : Frame) (t′ : List ℕ) : Type 0 where
@@ -34,6 +34,7 @@ pub record Each (g : ℕ → Place → Place) (t₀ : List ℕ) (i : ℕ) (t : L
   pub done : (k : ℕ) → k < i → placeAt t k ≡ g k (placeAt t₀ k)
   pub left : (k : ℕ) → k < places → i ≤ k → placeAt t k ≡ placeAt t₀ k
   pub late : lateOf t ≡ lateOf t₀
+  pub calm : calmOf t ≡ calmOf t₀
 
 -- What a frame from a place does to place k.
 unfoldable pub broadcast : (from : ℕ) → Frame → ℕ → Place → Place
@@ -87,17 +88,25 @@ laterPlace p = place (p .node) (map laterItem (p .inbox)) (laterTimed (timedOf (
 pub record Advanced (t t′ : List ℕ) : Type 0 where
   pub held : Held t′
   pub late : lateOf t′ ≡ lateOf t
+  pub calm : calmOf t′ ≡ calmOf t
   pub same : (k : ℕ) → k < places → placeAt t′ k ≡ laterPlace (placeAt t k)
 
--- The age of the first frame exceeds the limit; or that of what waits.
-abbrev pub firstOld : List Item → Bool
-firstOld [] = false
-firstOld (x ∷ xs) = ltb limit (x .age)
+-- For n ticks from now no age can come to exceed the limit; nothing else has changed.
+pub record Calmed (t : List ℕ) (n : ℕ) (t′ : List ℕ) : Type 0 where
+  pub held : Held t′
+  pub late : lateOf t′ ≡ lateOf t
+  pub calm : calmOf t′ ≡ n
+  pub same : (k : ℕ) → k < places → placeAt t′ k ≡ placeAt t k
 
-abbrev pub headOld : Place → Bool
-headOld p = firstOld (p .inbox) || timedOld limit limit (timedOf (p .node)) (p .age)
+-- The age of the first frame of an inbox, and the greater of it and the age of what waits.
+abbrev pub firstAge : List Item → ℕ
+firstAge [] = 0
+firstAge (x ∷ xs) = x .age
 
--- Which place has one, if one has.
-pub record OldSome (t : List ℕ) (r : Bool) : Type 0 where
-  pub some : r ≡ true → (k : ℕ) × (k < places) × (headOld (placeAt t k) ≡ true)
-  pub none : r ≡ false → (k : ℕ) → k < places → headOld (placeAt t k) ≡ false
+abbrev pub headAge : Place → ℕ
+headAge p = max (firstAge (p .inbox)) (p .age)
+
+-- r is the greatest of these in the places below i; where it exceeds the limit, one of them does.
+pub record Oldest (t : List ℕ) (i r : ℕ) : Type 0 where
+  pub most : (k : ℕ) → k < i → headAge (placeAt t k) ≤ r
+  pub some : limit < r → (k : ℕ) × (k < i) × (limit < headAge (placeAt t k))

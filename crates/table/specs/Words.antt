@@ -16,7 +16,7 @@ use Rattle.node.specs.declared.state.Host.{Host}
 use Rattle.node.specs.declared.state.Host.the-variants.{Empty, Waits}
 use Rattle.table.specs.declared.ages.Timed.{Timed}
 use Rattle.table.specs.declared.ages.Timed.the-variants.{Untimed, Reply, Amr}
-use Rattle.table.specs.Rules.{places, inboxRoom, Item, item, Place, place, Places, start, timedOf}
+use Rattle.table.specs.Rules.{places, inboxRoom, limit, Item, item, Place, place, Places, start, timedOf}
 
 -- WHERE THE WORDS STAND
 
@@ -44,6 +44,9 @@ lateAt = places * block
 
 abbrev pub clockAt : ℕ
 clockAt = places * block + 1
+
+abbrev pub calmAt : ℕ
+calmAt = places * block + 2
 
 -- WHAT WORDS SAY, whatever they are
 
@@ -159,6 +162,10 @@ placeAt t k = place (nodeAt t k) (inbox t k) (ageOf t k)
 abbrev pub lateOf : List ℕ → Bool
 lateOf t = eqb (getD t lateAt 0) 1
 
+-- For so many ticks no age can come to exceed the limit.
+abbrev pub calmOf : List ℕ → ℕ
+calmOf t = getD t calmAt 0
+
 -- g at b, b + 1, .., n of them.
 abbrev pub row : (ℕ → Place) → (b n : ℕ) → Places
 row g b zero = []
@@ -167,11 +174,12 @@ row g b (suc n) = g b ∷ row g (suc b) n
 unfoldable pub view : List ℕ → Places
 view t = row (placeAt t) 0 places
 
--- As many words as the layout has, every count and every first slot in its range.
+-- As many words as the layout has; every count, every first slot and the calm in its range.
 pub record Held (t : List ℕ) : Type 0 where
   pub long : length t ≡ words
   pub few : (k : ℕ) → k < places → getD t (countAt k) 0 ≤ inboxRoom
   pub ring : (k : ℕ) → k < places → getD t (firstAt k) 0 < inboxRoom
+  pub calm : calmOf t ≤ limit
 
 -- Place k is p now, and nothing else has changed.
 pub record At (t : List ℕ) (k : ℕ) (p : Place) (t′ : List ℕ) : Type 0 where

@@ -1,8 +1,8 @@
--- Only a tick makes an age exceed its limit.
-use mathlib.Core.Path.{_≡_, refl, sym}
+-- Only a tick makes an age exceed its limit, and no age grows by more than one.
+use mathlib.Core.Path.{_≡_, refl, sym, ap, _∙_}
 use mathlib.Core.Bool.{Bool, true, false, true≢false, cond, _||_, _&&_}
 use mathlib.Core.List.{List, [], _∷_, _++_, map}
-use Prim.Native.Nat.{ℕ, zero, suc, _≤_}
+use Prim.Native.Nat.{ℕ, zero, suc, _+_, _≤_}
 use native.Mathlib.Omega.{arith}
 use lib.Dec.{ltb}
 use lib.ListN.{set}
@@ -22,6 +22,7 @@ use Rattle.node.specs.Rules.{
   powerOn as powers,
 }
 use Rattle.node.specs.Laws.{neither}
+use Rattle.table.specs.Laws.{timed-tick}
 use Rattle.node.specs.declared.frame.Frame.{Frame}
 use Rattle.node.specs.declared.state.Node.{Node}
 use Rattle.table.specs.declared.ages.Timed.{Timed}
@@ -48,6 +49,9 @@ use Rattle.table.specs.Rules.{
   answer,
   joins,
   deliveredAt,
+  older,
+  tickAge,
+  placeTick,
   change,
   sendBy,
   carry,
@@ -98,7 +102,7 @@ module _ (i o : ℕ) where
 
   -- one place
 
-  in-limit : (t : Timed) (g : ℕ) → g ≤ o → timedOld i o t g ≡ false
+  pub in-limit : (t : Timed) (g : ℕ) → g ≤ o → timedOld i o t g ≡ false
   in-limit Untimed g h = refl
   in-limit Reply g h = le-ltb o g h
   in-limit Amr g h = le-ltb o g h
@@ -176,7 +180,7 @@ module _ (i o : ℕ) where
     young-carry (enquiry n l id) q = young-change n _
     young-carry (release n) q = young-change n _
 
-    young-step : (c : Command) → isTick c ≡ false → old i o (step T c) ≡ false
+    pub young-step : (c : Command) → isTick c ≡ false → old i o (step T c) ≡ false
     young-step c q = go (answer T c)
       where
         go : (a : Answer Value) → old i o (stepBy a T c) ≡ false
@@ -190,3 +194,54 @@ module _ (i o : ℕ) where
         go : (b : Bool) → isTick c ≡ b → (b && old i o (step T c)) ≡ old i o (step T c)
         go true e = refl
         go false e = sym (young-step c e)
+
+-- A TICK makes ages greater by one
+
+module _ (b : ℕ) where
+  tick-items : (xs : List Item) → anyOld b b xs ≡ false → anyOld (b + 1) (b + 1) (map older xs) ≡ false
+  tick-items [] e = refl
+  tick-items (x ∷ xs) e =
+      let c = neither (ltb b (x .age)) (anyOld b b xs) e in
+      let h : x .age + 1 ≤ b + 1 = omega (arith, ltb-false b (x .age) (c .0)) in
+      both-false _ _ (le-ltb (b + 1) (x .age + 1) h) (tick-items xs (c .1))
+
+  tick-age : (a : Timed) (g : ℕ) → timedOld b b a g ≡ false → timedOld (b + 1) (b + 1) a (tickAge a g) ≡ false
+  tick-age Untimed g e = refl
+  tick-age Reply g e = le-ltb (b + 1) (g + 1) (omega (arith, ltb-false b g e))
+  tick-age Amr g e = le-ltb (b + 1) (g + 1) (omega (arith, ltb-false b g e))
+
+  tick-place : (p : Place) → oldPlace b b p ≡ false → oldPlace (b + 1) (b + 1) (placeTick p) ≡ false
+  tick-place p e =
+      let c = neither (anyOld b b (p .inbox)) (timedOld b b (timedOf (p .node)) (p .age)) e in
+      both-false _ _ (tick-items (p .inbox) (c .0))
+      (ap (λ (a : Timed). timedOld (b + 1) (b + 1) a (tickAge (timedOf (p .node)) (p .age))) (timed-tick (p .node)) ∙ tick-age (timedOf (p .node)) (p .age) (c .1))
+
+  pub tick-young : (T : Places) → old b b T ≡ false → old (b + 1) (b + 1) (map placeTick T) ≡ false
+  tick-young [] e = refl
+  tick-young (p ∷ T) e =
+      let c = neither (oldPlace b b p) (old b b T) e in
+      both-false _ _ (tick-place p (c .0)) (tick-young T (c .1))
+
+-- a greater bound
+
+module _ (b d : ℕ) (h : b ≤ d) where
+  wider : (g : ℕ) → ltb b g ≡ false → ltb d g ≡ false
+  wider g e = le-ltb d g (omega (arith, ltb-false b g e))
+
+  wider-items : (xs : List Item) → anyOld b b xs ≡ false → anyOld d d xs ≡ false
+  wider-items [] e = refl
+  wider-items (x ∷ xs) e =
+      let c = neither (ltb b (x .age)) (anyOld b b xs) e in
+      both-false _ _ (wider (x .age) (c .0)) (wider-items xs (c .1))
+
+  wider-timed : (a : Timed) (g : ℕ) → timedOld b b a g ≡ false → timedOld d d a g ≡ false
+  wider-timed Untimed g e = refl
+  wider-timed Reply g e = wider g e
+  wider-timed Amr g e = wider g e
+
+  pub wider-young : (T : Places) → old b b T ≡ false → old d d T ≡ false
+  wider-young [] e = refl
+  wider-young (p ∷ T) e =
+      let c = neither (oldPlace b b p) (old b b T) e in
+      let q = neither (anyOld b b (p .inbox)) (timedOld b b (timedOf (p .node)) (p .age)) (c .0) in
+      both-false _ _ (both-false _ _ (wider-items (p .inbox) (q .0)) (wider-timed (timedOf (p .node)) (p .age) (q .1))) (wider-young T (c .1))

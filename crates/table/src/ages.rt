@@ -1,11 +1,10 @@
 // Ages: which waiting frame has one, and how it goes on.
 use crate::layout::ROUND;
-use crate::layout::Table;
 use node::state::Node;
 use node::state::Phase;
 ghost use mathlib.Core.Path.{_≡_};
-ghost use Rattle.table.specs.Rules.{timedAt, timedOf, timedOld, limit};
-ghost use Rattle.table.specs.Words.{since};
+ghost use Rattle.table.specs.Rules.{timedAt, timedOf};
+ghost use Rattle.table.specs.Words.{since, timedAge};
 ghost use Rattle.table.specs.Parts.{stampOn};
 
 // The frame with an age that waits at a node.
@@ -64,13 +63,13 @@ pub(crate) fn since(clock: u64, stamp: u64) -> u64
     (clock % ROUND + ROUND - stamp % ROUND) % ROUND
 }
 
-// Whether the age of what waits is above the limit.
-pub(crate) fn is_old_age(t: Timed, age: u64) -> bool
-    ensures { λ r. ⌜ r ≡ timedOld limit limit t age ⌝ }
+// The age of what waits, where that has one.
+pub(crate) fn timed_age(t: Timed, age: u64) -> u64
+    ensures { λ r. ⌜ r ≡ timedAge t age ⌝ }
 {
     match t {
-        Timed::Untimed => false,
-        Timed::Reply => Table::LATENESS < age,
-        Timed::Amr => Table::LATENESS < age,
+        Timed::Untimed => 0,
+        Timed::Reply => age,
+        Timed::Amr => age,
     }
 }

@@ -92,6 +92,7 @@ pub fn deliver(table: &mut [u64; WORDS], index: usize) -> Answer
     Answer::Accepted
 }
 
+// Each node ticks, and every age is one greater. Ages are looked at only when one can have come to exceed the limit.
 pub fn tick(table: &mut [u64; WORDS]) -> Answer
     ensures { λ r. ⌜ Does tick (now (table .entry)) r (now (table .exit)) ⌝ }
 {
@@ -102,10 +103,17 @@ pub fn tick(table: &mut [u64; WORDS]) -> Answer
     if store::is_late(&*table) {
         return Answer::Accepted;
     }
-    if lateness::is_any_old(&*table) {
+    let calm = store::calm(&*table);
+    if 0 < calm {
+        store::set_calm(&mut *table, calm - 1);
+        return Answer::Accepted;
+    }
+    let oldest = lateness::oldest(&*table);
+    if Table::LATENESS < oldest {
         store::set_late(&mut *table);
         return Answer::Accepted;
     }
+    store::set_calm(&mut *table, Table::LATENESS - oldest);
     Answer::Accepted
 }
 

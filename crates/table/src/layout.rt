@@ -12,7 +12,8 @@
 // A frame is 8 bits kind, 8 bits length, 32 bits header and, in a slot, 16 bits stamp; then a word of data. After the places:
 //   1920                      1 where an age has exceeded the limit
 //   1921                      the clock
-//   1922 .. 1927              reserved
+//   1922                      the calm: for so many ticks no age can come to exceed the limit
+//   1923 .. 1927              reserved
 // The clock counts ticks, modulo 2^16. A stamp is what it read when an age began: the age is how far it has come since.
 
 // What a segment is laid out for.
@@ -52,6 +53,8 @@ pub(crate) const SLOTS: usize = 16;
 pub(crate) const LATE: usize = Table::PLACES * BLOCK;
 
 pub(crate) const CLOCK: usize = Table::PLACES * BLOCK + 1;
+
+pub(crate) const CALM: usize = Table::PLACES * BLOCK + 2;
 
 // Where the clock goes round.
 pub(crate) const ROUND: u64 = 0x1_0000;

@@ -1,8 +1,9 @@
-// The segment in its words: the node, the inbox and the stamp at each place, the clock, and whether an age has exceeded the
-// limit.
+// The segment in its words: the node, the inbox and the stamp at each place; the clock, the calm, and whether an age has
+// exceeded the limit.
 use crate::ages::Timed;
 use crate::ages::timed_by;
 use crate::layout::BLOCK;
+use crate::layout::CALM;
 use crate::layout::CLOCK;
 use crate::layout::COUNT;
 use crate::layout::FIRST;
@@ -34,12 +35,12 @@ use node::state::Phase;
 ghost use mathlib.Core.Path.{_≡_};
 ghost use mathlib.Core.Bool.{false, not};
 ghost use mathlib.Core.List.{[]};
-ghost use Prim.Native.Nat.{_<_};
+ghost use Prim.Native.Nat.{_<_, _≤_};
 ghost use lib.ListN.{length, getD};
 ghost use Rattle.node.specs.Rules.{isOff};
-ghost use Rattle.table.specs.Rules.{places, place, timedOf, hasRoom, isEmpty};
-ghost use Rattle.table.specs.Words.{firstAt, stampAt, slot, stampIn, since, clockOf, nodeAt, inbox, timedAge, ageOf, placeAt, lateOf, Held, At, NodeStored, Fresh, Latched};
-ghost use Rattle.table.specs.Parts.{Taken, pushed, Advanced};
+ghost use Rattle.table.specs.Rules.{places, limit, place, timedOf, hasRoom, isEmpty};
+ghost use Rattle.table.specs.Words.{firstAt, stampAt, slot, stampIn, since, clockOf, nodeAt, inbox, timedAge, ageOf, placeAt, lateOf, calmOf, Held, At, NodeStored, Fresh, Latched};
+ghost use Rattle.table.specs.Parts.{Taken, pushed, Advanced, Calmed};
 
 // All nodes Off, no frame in an inbox, no age above the limit.
 pub(crate) fn new(t: &mut [u64; WORDS])
@@ -60,7 +61,7 @@ pub(crate) fn set_late(t: &mut [u64; WORDS])
     t[LATE] = 1;
 }
 
-// CLOCK
+// CLOCK AND CALM
 
 pub(crate) fn clock(t: &[u64; WORDS]) -> u64
     ensures { λ r. ⌜ r ≡ clockOf (now (t .entry)) ⌝ }
@@ -73,6 +74,19 @@ pub(crate) fn advance(t: &mut [u64; WORDS])
     ensures { λ _. ⌜ (Held (now (t .entry)) → Advanced (now (t .entry)) (now (t .exit))) ⌝ }
 {
     t[CLOCK] = t[CLOCK] % ROUND + 1;
+}
+
+// For how many ticks no age can come to exceed the limit.
+pub(crate) fn calm(t: &[u64; WORDS]) -> u64
+    ensures { λ r. ⌜ r ≡ calmOf (now (t .entry)) ⌝ }
+{
+    t[CALM]
+}
+
+pub(crate) fn set_calm(t: &mut [u64; WORDS], n: u64)
+    ensures { λ _. ⌜ (Held (now (t .entry)) → n ≤ limit → Calmed (now (t .entry)) n (now (t .exit))) ⌝ }
+{
+    t[CALM] = n;
 }
 
 // NODES

@@ -1,13 +1,13 @@
-use Rattle.table.proofs.Rounds.{each-none, each-more}
-use Rattle.table.proofs.Ticked.{tick-after, tick-late, tick-young}
-use Rattle.table.specs.Words.{Held, lateOf}
-use Rattle.table.specs.Rules.{places}
-use Rattle.table.specs.Parts.{Each, ticked}
-use mathlib.Core.List.{List}
-use mathlib.Core.Path.{_≡_, refl, sym, subst, _∙_}
 use borrow.Author.Needs.{needs}
-use native.Mathlib.Omega.{arith}
 use Prim.Native.Nat.{ℕ, _≤_, _-_}
+use native.Mathlib.Omega.{arith}
+use mathlib.Core.Path.{_≡_, refl, sym, subst, _∙_}
+use mathlib.Core.List.{List}
+use Rattle.table.specs.Parts.{Each, ticked}
+use Rattle.table.specs.Rules.{places}
+use Rattle.table.specs.Words.{Held}
+use Rattle.table.proofs.Ticked.{tick-after, tick-calm, tick-late, tick-kept}
+use Rattle.table.proofs.Rounds.{each-none, each-more}
 use Rattle.table.proofs.commands.tick.Statement.{statement}
 use Rattle.table.proofs.commands.tick.Tie as tie
 
@@ -45,29 +45,34 @@ all t t₁ k lo hi E =
     subst (λ (x : ℕ). Each (λ j p. ticked p) t x t₁) e E
 
 returns : tie.Need-returns Inv-loop μ-loop
-returns c = λ h.
-    let E = all _ _ _ (omega arith) (omega arith) (c .before .before .before .before .before .before .loop .inv .1 (h .held)) in
-    tick-after _ _ _ h E (c .before .before .before .advance .ensures (E .held)) (sym (c .before .is-late .ensures) ∙ c .if1 .taken)
+returns c = λ h. let E = all _ _ _ (omega arith) (omega arith) (c .before .before .before .before .before .before .loop .inv .1 (h .held)) in tick-after _ _ _ h E (c .before .before .before .advance .ensures (E .held)) (sym (c .before .is-late .ensures) ∙ c .if1 .taken)
 
-is-any-old-requires : tie.Need-is-any-old-requires Inv-loop μ-loop
-is-any-old-requires c κs = search needs
+calm-requires : tie.Need-calm-requires Inv-loop μ-loop
+calm-requires c κs = search needs
+
+sub-set-calm : tie.Need-sub-set-calm Inv-loop μ-loop
+sub-set-calm c = omega arith
+
+set-calm-requires : tie.Need-set-calm-requires Inv-loop μ-loop
+set-calm-requires c κs = search needs
+
+returns-2 : tie.Need-returns-2 Inv-loop μ-loop
+returns-2 c = λ h. let E = all _ _ _ (omega arith) (omega arith) (c .before .before .before .before .before .before .before .before .before .before .before .loop .inv .1 (h .held)) in tick-calm _ _ _ h E (c .before .before .before .before .before .before .before .before .advance .ensures (E .held)) (sym (c .before .before .before .before .before .before .is-late .ensures) ∙ c .before .before .before .before .before .if1 .left) _ _ (c .before .before .before .calm .ensures) (c .before .before .if2 .taken) (c .set-calm .ensures)
+
+oldest-requires : tie.Need-oldest-requires Inv-loop μ-loop
+oldest-requires c κs = search needs
 
 set-late-requires : tie.Need-set-late-requires Inv-loop μ-loop
 set-late-requires c κs = search needs
 
-returns-2 : tie.Need-returns-2 Inv-loop μ-loop
-returns-2 c = λ h.
-    let E = all _ _ _ (omega arith) (omega arith) (c .before .before .before .before .before .before .before .before .before .before .before .loop .inv .1 (h .held)) in
-    tick-late _ _ _ h E (c .before .before .before .before .before .before .before .before .advance .ensures (E .held)) _ _
-    (sym (c .before .before .before .before .before .before .is-late .ensures) ∙ c .before .before .before .before .before .if1 .left)
-    (c .before .before .before .is-any-old .ensures) (c .before .before .if2 .taken) (c .set-late .ensures)
-
 returns-3 : tie.Need-returns-3 Inv-loop μ-loop
-returns-3 c = λ h.
-    let E = all _ _ _ (omega arith) (omega arith) (c .before .before .before .before .before .before .before .before .before .loop .inv .1 (h .held)) in
-    tick-young _ _ _ h E (c .before .before .before .before .before .before .advance .ensures (E .held)) _
-    (sym (c .before .before .before .before .is-late .ensures) ∙ c .before .before .before .if1 .left)
-    (c .before .is-any-old .ensures) (c .if2 .left)
+returns-3 c = λ h. let E = all _ _ _ (omega arith) (omega arith) (c .before .before .before .before .before .before .before .before .before .before .before .before .before .before .loop .inv .1 (h .held)) in tick-late _ _ _ h E (c .before .before .before .before .before .before .before .before .before .before .before .advance .ensures (E .held)) (sym (c .before .before .before .before .before .before .before .before .before .is-late .ensures) ∙ c .before .before .before .before .before .before .before .before .if1 .left) _ _ (c .before .before .before .oldest .ensures) (c .before .before .if3 .taken) (c .set-late .ensures)
+
+set-calm-requires-2 : tie.Need-set-calm-requires-2 Inv-loop μ-loop
+set-calm-requires-2 c κs = search needs
+
+returns-4 : tie.Need-returns-4 Inv-loop μ-loop
+returns-4 c = λ h. let E = all _ _ _ (omega arith) (omega arith) (c .before .before .before .before .before .before .before .before .before .before .before .before .before .before .loop .inv .1 (h .held)) in tick-kept _ _ _ h E (c .before .before .before .before .before .before .before .before .before .before .before .advance .ensures (E .held)) (sym (c .before .before .before .before .before .before .before .before .before .is-late .ensures) ∙ c .before .before .before .before .before .before .before .before .if1 .left) _ _ (c .before .before .before .oldest .ensures) (c .before .before .if3 .left) (c .set-calm2 .ensures)
 
 pub tick-spec : {M : Type 1} → statement M
 tick-spec =
@@ -83,7 +88,12 @@ tick-spec =
     advance-requires
     is-late-requires
     returns
-    is-any-old-requires
-    set-late-requires
+    calm-requires
+    sub-set-calm
+    set-calm-requires
     returns-2
-    returns-3)
+    oldest-requires
+    set-late-requires
+    returns-3
+    set-calm-requires-2
+    returns-4)
