@@ -1,11 +1,9 @@
 -- Document 01's command, and its number and values, for each case of the code's enums.
 use Prim.Native.Nat.{ℕ}
-use Rattle.node.specs.Rules.{Answer, accepted, refused, Value, done, left}
 use Rattle.table.specs.Rules.{Command, powerOn, send, fail, deliver, tick, foreign, message, enquiry, release}
 use Rattle.script.specs.Rules.{Found, command, refusal, nothing}
 use Rattle.script.specs.declared.command.Command as C
 use Rattle.script.specs.declared.command.Read as R
-use Rattle.script.specs.declared.lines.Said as S
 
 abbrev pub commandAs : C.Command → Command
 commandAs (C.the-variants.PowerOn index id) = powerOn index id
@@ -24,8 +22,3 @@ readAs R.the-variants.End = nothing
 readAs (R.the-variants.Next byte c took) = command byte (commandAs c) took
 readAs (R.the-variants.Unknown byte) = refusal byte 10
 readAs (R.the-variants.CutShort byte) = refusal byte 11
-
-abbrev pub saidAs : S.Said → Answer Value
-saidAs S.the-variants.Accepted = accepted done
-saidAs (S.the-variants.Sent f) = accepted (left f)
-saidAs (S.the-variants.Refused number) = refused number

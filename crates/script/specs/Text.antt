@@ -123,10 +123,19 @@ decimal-hundreds n h =
     rw (e, decimal-more n (omega arith), decimal-more (n / 10) (omega arith), append-assoc)
 
 -- Four digits at a time.
-pub decimal-myriads : (n : ℕ) → 10000 ≤ n → (decimal (n / 10000) ++ lastTwo (n / 100)) ++ lastTwo n ≡ decimal n
+abbrev pub lastFour : ℕ → List ℕ
+lastFour n = lastTwo (n / 100) ++ lastTwo n
+
+pub decimal-myriads : (n : ℕ) → 10000 ≤ n → decimal (n / 10000) ++ lastFour n ≡ decimal n
 decimal-myriads n h =
     let e : n / 10000 ≡ n / 100 / 100 = omega arith in
-    rw e (ap (λ (l : List ℕ). l ++ lastTwo n) (decimal-hundreds (n / 100) (omega arith)) ∙ decimal-hundreds n (omega arith))
+    sym (append-assoc (decimal (n / 10000)) (lastTwo (n / 100)) (lastTwo n))
+    ∙ rw e (ap (λ (l : List ℕ). l ++ lastTwo n) (decimal-hundreds (n / 100) (omega arith)) ∙ decimal-hundreds n (omega arith))
+
+-- THE OPENING OF A LINE: count and command byte, a space after each.
+
+abbrev pub opening : (count byte : ℕ) → List ℕ
+opening count byte = decimal count ++ space ++ hex 2 byte ++ space
 
 -- HOW LONG A LINE CAN BE
 

@@ -15,12 +15,11 @@ use Rattle.table.specs.Runs.{run-snoc}
 use Rattle.table.specs.Done.{Done, Does}
 use Rattle.table.specs.Lists.{Carried, begun, then, follows, told}
 use Rattle.script.specs.Rules.{Found, command, refusal, nothing, readOf, Script, next, stop, end, onward, scriptOf, listed, line, lines, lastLine, outputOf, output, Printed}
-use Rattle.script.specs.Answers.{commandAs, readAs, saidAs}
+use Rattle.script.specs.Answers.{commandAs, readAs}
 use Rattle.script.specs.Sheet.{Sheet, sheet, write, Wrote, carried, printed}
 use Rattle.script.specs.Scripts.{next-takes, goes-on}
 use Rattle.script.specs.declared.command.Command as C
 use Rattle.script.specs.declared.command.Read as R
-use Rattle.script.specs.declared.lines.Said as S
 use Rattle.script.specs.declared.program.Progress.{Progress}
 
 -- What the commands cs leave to write, count of them done, where s comes next.
@@ -102,35 +101,30 @@ module _ (script t out : List ℕ) (p : Progress) (ready : Ready script p) (rd :
   rest-end h = by-read h
 
   -- a command on the table, and its line
-  module _ (t′ out′ : List ℕ) (b took to : ℕ) (c : C.Command) (a : A.Answer) (said : S.Said) (h : rd ≡ R.the-variants.Next b c took) where
+  module _ (t′ out′ : List ℕ) (b took to : ℕ) (c : C.Command) (a : A.Answer) (h : rd ≡ R.the-variants.Next b c took) where
     abbrev after : Progress
     after = record { at = p .at + took; done = p .done + 1; place = to; more = true }
 
-    goes-next : Does (commandAs c) t a t′ → saidAs said ≡ answerAs a
-        → Wrote (sheet out (p .place)) (line (p .done + 1) b (saidAs said)) (sheet out′ to)
+    goes-next : Does (commandAs c) t a t′ → Wrote (sheet out (p .place)) (line (p .done + 1) b (answerAs a)) (sheet out′ to)
         → {old : List ℕ} → Going script old p t out → Going script old after t′ out′
-    goes-next does same wrote g = record {
+    goes-next does wrote g = record {
       commands = g .commands ++ commandAs c ∷ [];
       answers = g .answers ++ a ∷ [];
       made = then (g .made) does;
       text =
           carried (ahead (g .commands ++ commandAs c ∷ []) (p .done + 1) (scriptOf (drop (p .at + took) script))) wrote
           ∙ ap (write (sheet out (p .place)))
-          (ap (λ (x : Answer Value). line (p .done + 1) b x ++ ahead (g .commands ++ commandAs c ∷ []) (p .done + 1) (scriptOf (drop (p .at + took) script))) (same ∙ one)
+          (ap (λ (x : Answer Value). line (p .done + 1) b x ++ ahead (g .commands ++ commandAs c ∷ []) (p .done + 1) (scriptOf (drop (p .at + took) script))) (told (follows (g .made)) does)
           ∙ sym (ahead-next (g .commands) (p .done) b (commandAs c) (scriptOf (drop (p .at + took) script)))
           ∙ ap (ahead (g .commands) (p .done)) (sym (rest-next h)))
           ∙ g .text;
     }
-      where
-        one : answerAs a ≡ answer (run start (g .commands)) (commandAs c)
-        one = told (follows (g .made)) does
 
-    pub turned-next : Does (commandAs c) t a t′ → saidAs said ≡ answerAs a
-        → Wrote (sheet out (p .place)) (line (p .done + 1) b (saidAs said)) (sheet out′ to)
+    pub turned-next : Does (commandAs c) t a t′ → Wrote (sheet out (p .place)) (line (p .done + 1) b (answerAs a)) (sheet out′ to)
         → Turned script p t out after t′ out′
-    turned-next does same wrote =
+    turned-next does wrote =
         let u : (1 ≤ took) × (took ≤ length (drop (p .at) script)) = next-takes (drop (p .at) script) (sym e ∙ ap readAs h) in
-        record { goes = goes-next does same wrote; further = λ _. (refl, (omega arith, omega (arith, length-drop (p .at) script, ready .at))) }
+        record { goes = goes-next does wrote; further = λ _. (refl, (omega arith, omega (arith, length-drop (p .at) script, ready .at))) }
 
   -- a refusal of the script's own, and its line
   module _ (q : Progress) (out′ : List ℕ) (last : q .more ≡ false) where

@@ -1,32 +1,14 @@
 // The lines of a run, put byte by byte into a lent buffer. What finds no room is dropped, and the place stays at the end.
 use node::answer::Answer;
-use node::frame::Frame;
 ghost use mathlib.Core.Path.{_≡_};
 ghost use mathlib.Core.Bool.{not};
 ghost use mathlib.Core.List.{[], _∷_};
 ghost use Prim.Native.Nat.{_<_, _*_};
+ghost use Rattle.node.specs.Rules.{refused};
 ghost use Rattle.node.specs.Answers.{answerAs};
 ghost use Rattle.script.specs.Rules.{digit as digitOf, hex, decimal, answerText, dataText, line, lastLine};
-ghost use Rattle.script.specs.Answers.{saidAs};
 ghost use Rattle.script.specs.Sheet.{sheet, Wrote};
-ghost use Rattle.script.specs.Text.{without, lastTwo};
-
-// What a line says of its command: the table's refusals 1 to 9, and the script's own, 10 and 11, are numbers here.
-pub(crate) enum Said {
-    Accepted,
-    Sent(Frame),
-    Refused(u8),
-}
-
-pub(crate) fn said_of(a: Answer) -> Said
-    ensures { λ r. ⌜ saidAs r ≡ answerAs a ⌝ }
-{
-    match a {
-        Answer::Accepted => Said::Accepted,
-        Answer::Sent(f) => Said::Sent(f),
-        Answer::Refused(r) => Said::Refused(r.number()),
-    }
-}
+ghost use Rattle.script.specs.Text.{without, lastTwo, lastFour, opening};
 
 pub(crate) fn put(out: &mut [u8], at: usize, b: u8) -> usize
     ensures { λ r. ⌜ Wrote (sheet (now (out .entry)) at) (b ∷ []) (sheet (now (out .exit)) r) ⌝ }
@@ -91,6 +73,14 @@ fn put_two(out: &mut [u8], at: usize, n: u64) -> usize
     put_pair(out, at, n / 10 % 10, n % 10)
 }
 
+// The last four decimal digits of n.
+fn put_four(out: &mut [u8], at: usize, n: u64) -> usize
+    ensures { λ r. ⌜ Wrote (sheet (now (out .entry)) at) (lastFour n) (sheet (now (out .exit)) r) ⌝ }
+{
+    let next = put_two(out, at, n / 100);
+    put_two(out, next, n)
+}
+
 // A number of one or two digits.
 fn put_below_100(out: &mut [u8], at: usize, n: u64) -> usize
     requires { ⌜ n < 100 ⌝ }
@@ -121,9 +111,12 @@ pub(crate) fn put_decimal(out: &mut [u8], at: usize, n: u64) -> usize
     if n < 10000 {
         return put_below_10000(out, at, n);
     }
+    if n < 100000000 {
+        let next = put_below_10000(out, at, n / 10000);
+        return put_four(out, next, n);
+    }
     let next = put_decimal(out, at, n / 10000);
-    let after = put_two(out, next, n / 100);
-    put_two(out, after, n)
+    put_four(out, next, n)
 }
 
 // n without its last hexadecimal digits.
@@ -151,33 +144,53 @@ fn put_data(out: &mut [u8], at: usize, len: u8, bytes: u64) -> usize
     put_hex(out, next, 8, bytes)
 }
 
-pub(crate) fn put_answer(out: &mut [u8], at: usize, said: Said) -> usize
-    ensures { λ r. ⌜ Wrote (sheet (now (out .entry)) at) (answerText (saidAs said)) (sheet (now (out .exit)) r) ⌝ }
+fn put_refusal(out: &mut [u8], at: usize, number: u8) -> usize
+    ensures { λ r. ⌜ Wrote (sheet (now (out .entry)) at) (answerText (refused number)) (sheet (now (out .exit)) r) ⌝ }
 {
-    match said {
-        Said::Accepted => put_all(out, at, b"ok"),
-        Said::Sent(f) => {
+    let next = put_all(out, at, b"refused ");
+    put_decimal(out, next, number as u64)
+}
+
+fn put_answer(out: &mut [u8], at: usize, answer: Answer) -> usize
+    ensures { λ r. ⌜ Wrote (sheet (now (out .entry)) at) (answerText (answerAs answer)) (sheet (now (out .exit)) r) ⌝ }
+{
+    match answer {
+        Answer::Accepted => put_all(out, at, b"ok"),
+        Answer::Sent(f) => {
             let next = put_all(out, at, b"ok ");
             let after = put_hex(out, next, 4, f.header as u64);
             put_data(out, after, f.len, f.bytes)
         }
-        Said::Refused(n) => {
-            let next = put_all(out, at, b"refused ");
-            put_decimal(out, next, n as u64)
-        }
+        Answer::Refused(r) => put_refusal(out, at, r.number()),
     }
 }
 
-// The whole line of a command.
-pub(crate) fn put_line(out: &mut [u8], at: usize, count: u64, byte: u8, said: Said) -> usize
-    ensures { λ r. ⌜ Wrote (sheet (now (out .entry)) at) (line count byte (saidAs said)) (sheet (now (out .exit)) r) ⌝ }
+// The count and the command's byte, a space after each.
+fn put_opening(out: &mut [u8], at: usize, count: u64, byte: u8) -> usize
+    ensures { λ r. ⌜ Wrote (sheet (now (out .entry)) at) (opening count byte) (sheet (now (out .exit)) r) ⌝ }
 {
     let a = put_decimal(out, at, count);
     let b = put(out, a, b' ');
     let c = put_byte(out, b, byte as u64);
-    let d = put(out, c, b' ');
-    let e = put_answer(out, d, said);
-    put(out, e, b'\n')
+    put(out, c, b' ')
+}
+
+// The whole line of a command that the table answered.
+pub(crate) fn put_line(out: &mut [u8], at: usize, count: u64, byte: u8, answer: Answer) -> usize
+    ensures { λ r. ⌜ Wrote (sheet (now (out .entry)) at) (line count byte (answerAs answer)) (sheet (now (out .exit)) r) ⌝ }
+{
+    let a = put_opening(out, at, count, byte);
+    let b = put_answer(out, a, answer);
+    put(out, b, b'\n')
+}
+
+// The whole line of a command that the script's own refusal ends the run with.
+pub(crate) fn put_refused(out: &mut [u8], at: usize, count: u64, byte: u8, number: u8) -> usize
+    ensures { λ r. ⌜ Wrote (sheet (now (out .entry)) at) (line count byte (refused number)) (sheet (now (out .exit)) r) ⌝ }
+{
+    let a = put_opening(out, at, count, byte);
+    let b = put_refusal(out, a, number);
+    put(out, b, b'\n')
 }
 
 pub(crate) fn put_last(out: &mut [u8], at: usize, late: bool) -> usize

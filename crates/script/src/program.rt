@@ -2,7 +2,6 @@
 use crate::command::Command;
 use crate::command::Read;
 use crate::lines;
-use crate::lines::Said;
 use crate::reader;
 use node::answer::Answer;
 use table::commands;
@@ -53,7 +52,7 @@ fn carry_out(table: &mut [u64; WORDS], command: Command) -> Answer
 fn stopped(run: Progress, out: &mut [u8], count: u64, byte: u8, number: u8) -> Progress
     ensures { λ r. ⌜ (r .more ≡ false) × Wrote (sheet (now (out .entry)) (run .place)) (line count byte (refused number)) (sheet (now (out .exit)) (r .place)) ⌝ }
 {
-    let place = lines::put_line(out, run.place, count, byte, Said::Refused(number));
+    let place = lines::put_refused(out, run.place, count, byte, number);
     Progress {
         at: run.at,
         done: count,
@@ -82,8 +81,7 @@ fn turn(run: Progress, script: &[u8], table: &mut [u64; WORDS], out: &mut [u8]) 
             took,
         } => {
             let answer = carry_out(&mut *table, command);
-            let said = lines::said_of(answer);
-            let place = lines::put_line(out, run.place, count, byte, said);
+            let place = lines::put_line(out, run.place, count, byte, answer);
             Progress {
                 at: at + took,
                 done: count,

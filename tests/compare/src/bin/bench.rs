@@ -7,7 +7,7 @@ use reference::generate::walker::{walk, Temper};
 use std::hint::black_box;
 use std::time::{Duration, Instant};
 
-const REPEATS: usize = 15;
+const REPEATS: usize = 101;
 
 fn main() {
     let rows: [(&str, Vec<u8>); 4] = [

@@ -1,8 +1,10 @@
-use Rattle.script.specs.declared.lines.Said.{Said}
-use Rattle.script.specs.Sheet.{then, alike}
-use Rattle.script.specs.Answers.{saidAs}
+use mathlib.Core.Path.{sym, ap, _∙_}
+use Prim.Native.Nat.{ℕ}
 use Rattle.script.specs.Rules.{answerText}
-use mathlib.Core.Path.{sym, ap}
+use Rattle.script.specs.Sheet.{then, alike}
+use Rattle.node.specs.Rules.{refused}
+use Rattle.node.specs.Answers.{answerAs}
+use Rattle.node.specs.declared.answer.Answer.{Answer}
 use borrow.Author.Needs.{needs}
 use Rattle.script.proofs.lines.put_answer.Statement.{statement}
 use Rattle.script.proofs.lines.put_answer.Tie as tie
@@ -21,13 +23,11 @@ put-answer-spec =
     (λ c κs. search needs)
     (λ c κs. search needs)
     (λ c. search needs)
-    (λ c. search needs)
+    (λ c κs. search needs)
     (λ c κs. search needs)
     (λ c. search needs)
-    (λ c κs. search needs)
+    (λ c. alike (c .before .before .put-all .ensures) (sym (ap (λ (a : Answer). answerText (answerAs a)) (c .before .before .before .before .before .enum-told .given .1))))
     (λ c. search needs)
-    (λ c. alike (c .before .before .put-all .ensures) (sym (ap (λ (s : Said). answerText (saidAs s)) (c .before .before .before .before .before .enum-told .given .1))))
+    (λ c. alike (then (then (c .before .before .before .before .before .before .before .before .before .before .before .put-all2 .ensures) (c .before .before .before .before .before .before .put-hex .ensures)) (c .before .before .put-data .ensures)) (sym (ap (λ (a : Answer). answerText (answerAs a)) (c .before .before .before .before .before .before .before .before .before .before .before .before .before .before .before .answer .given .1))))
     (λ c. search needs)
-    (λ c. alike (then (then (c .before .before .before .before .before .before .before .before .before .before .before .put-all2 .ensures) (c .before .before .before .before .before .before .put-hex .ensures)) (c .before .before .put-data .ensures)) (sym (ap (λ (s : Said). answerText (saidAs s)) (c .before .before .before .before .before .before .before .before .before .before .before .before .before .before .before .said .given .1))))
-    (λ c. search needs)
-    (λ c. alike (then (c .before .before .before .before .before .before .put-all3 .ensures) (c .before .before .put-decimal .ensures)) (sym (ap (λ (s : Said). answerText (saidAs s)) (c .before .before .before .before .before .before .before .before .before .before .said2 .given .1)))))
+    (λ c. alike (c .before .before .put-refusal .ensures) (ap (λ (n : ℕ). answerText (refused n)) (c .before .before .before .number .ensures) ∙ sym (ap (λ (a : Answer). answerText (answerAs a)) (c .before .before .before .before .before .before .answer2 .given .1)))))

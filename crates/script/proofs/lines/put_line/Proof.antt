@@ -1,5 +1,5 @@
-use Rattle.script.specs.Sheet.{then}
 use Rattle.script.specs.Rules.{line}
+use Rattle.script.specs.Sheet.{then}
 use borrow.Author.Needs.{needs}
 use Rattle.script.proofs.lines.put_line.Statement.{statement}
 use Rattle.script.proofs.lines.put_line.Tie as tie
@@ -11,8 +11,5 @@ put-line-spec =
     (λ c κs. search needs)
     (λ c κs. search needs)
     (λ c κs. search needs)
-    (λ c κs. search needs)
-    (λ c κs. search needs)
-    (λ c κs. search needs)
     (λ c. search needs)
-    (λ c. then (then (then (then (then (c .before .before .before .before .before .before .before .before .before .before .before .before .before .before .before .before .before .before .before .before .before .before .put-decimal .ensures) (c .before .before .before .before .before .before .before .before .before .before .before .before .before .before .before .before .before .before .put .ensures)) (c .before .before .before .before .before .before .before .before .before .before .before .before .before .before .put-byte .ensures)) (c .before .before .before .before .before .before .before .before .before .before .put2 .ensures)) (c .before .before .before .before .before .before .put-answer .ensures)) (c .before .before .put3 .ensures)))
+    (λ c. then (then (c .before .before .before .before .before .before .before .before .before .before .put-opening .ensures) (c .before .before .before .before .before .before .put-answer .ensures)) (c .before .before .put .ensures)))
