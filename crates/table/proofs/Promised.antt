@@ -21,7 +21,7 @@ use Rattle.table.specs.Bare.{bare}
 use Rattle.table.specs.Young.{isTick, young-step}
 use Rattle.table.specs.Done.{bound, Sound, reaches, Done, sound-after}
 
-pub or-false : (b : Bool) → b ≡ (b || false)
+or-false : (b : Bool) → b ≡ (b || false)
 or-false true = refl
 or-false false = refl
 

@@ -106,7 +106,7 @@ firstAge (x ∷ xs) = x .age
 abbrev pub headAge : Place → ℕ
 headAge p = max (firstAge (p .inbox)) (p .age)
 
--- r is the greatest of these in the places below i; where it exceeds the limit, one of them does.
+-- None of these in the places below i exceeds r, and where r exceeds the limit, one of them does.
 pub record Oldest (t : List ℕ) (i r : ℕ) : Type 0 where
   pub most : (k : ℕ) → k < i → headAge (placeAt t k) ≤ r
   pub some : limit < r → (k : ℕ) × (k < i) × (limit < headAge (placeAt t k))

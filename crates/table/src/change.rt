@@ -56,7 +56,7 @@ pub(crate) fn reset(t: &mut [u64; WORDS], k: usize, o: Outcome) -> Answer
     a
 }
 
-// The node n at place k hears f.
+// The node n at place k hears f. Most frames on a bus change nothing at a node: then no word is written.
 pub(crate) fn hears(t: &mut [u64; WORDS], k: usize, n: Node, f: Frame)
     requires { ⌜ k < places ⌝ }
     ensures { λ _. ⌜ (Held (now (t .entry)) → n ≡ nodeAt (now (t .entry)) k → At (now (t .entry)) k (after (placeAt (now (t .entry)) k) (received n f) (inbox (now (t .entry)) k)) (now (t .exit))) ⌝ }
@@ -67,7 +67,7 @@ pub(crate) fn hears(t: &mut [u64; WORDS], k: usize, n: Node, f: Frame)
     }
 }
 
-// A tick for the node at place k, through its record that is lent.
+// A tick for the node at place k, through its record that is lent, where the tick counts.
 pub(crate) fn tick_place(t: &mut [u64; WORDS], k: usize)
     requires { ⌜ k < places ⌝ }
     ensures { λ _. ⌜ (Held (now (t .entry)) → At (now (t .entry)) k (ticked (placeAt (now (t .entry)) k)) (now (t .exit))) ⌝ }
