@@ -3,7 +3,11 @@
 use compare::{claim_held, Proved};
 use reference::generate::prng::Prng;
 use reference::generate::walker::{walk, Temper};
+use reference::Command;
 use std::process::exit;
+
+/// The proved library counts ticks modulo this number: some scripts begin with so many ticks that the count goes round in them.
+const ROUND: usize = 65_536;
 
 fn main() {
     let seed = setting("SEED", fresh_seed());
@@ -45,6 +49,10 @@ fn script_of(rng: &mut Prng) -> (Vec<u8>, bool) {
     };
     let temper = Temper::random(rng, commands);
     let mut script = walk(rng, temper);
+    if rng.below(40) == 0 {
+        let ticks = rng.between(ROUND - 250, ROUND);
+        script.splice(..0, std::iter::repeat_n(Command::Tick.byte(), ticks));
+    }
     let harmed = rng.percent(35);
     if harmed {
         damage(rng, &mut script);
