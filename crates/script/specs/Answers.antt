@@ -1,5 +1,4 @@
 -- Document 01's command, and its number and values, for each case of the code's enums.
-use Prim.Native.Nat.{ℕ}
 use Rattle.table.specs.Rules.{Command, powerOn, send, fail, deliver, tick, foreign, message, enquiry, release}
 use Rattle.script.specs.Rules.{Found, command, refusal, nothing}
 use Rattle.script.specs.declared.command.Command as C

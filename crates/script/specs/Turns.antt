@@ -1,5 +1,5 @@
 -- A run, turn by turn: what is written, followed by what is still to come, stays the whole output.
-use mathlib.Core.Path.{_≡_, refl, ap, sym, subst, _∙_}
+use mathlib.Core.Path.{_≡_, refl, ap, sym, _∙_}
 use Prim.Native.Nat.{ℕ, _+_, _-_, _≤_, _<_, min}
 use mathlib.Core.Bool.{Bool, true, false, not, cond}
 use mathlib.Core.List.{List, [], _∷_, _++_, append-assoc, append-nil}
@@ -12,9 +12,9 @@ use Rattle.node.specs.declared.answer.Answer as A
 use Rattle.table.specs.Rules.{limit, start, Command, answer, step, run, kept}
 use Rattle.table.specs.Words.{lateOf, Fresh}
 use Rattle.table.specs.Runs.{run-snoc}
-use Rattle.table.specs.Done.{Done, Does}
+use Rattle.table.specs.Done.{Does}
 use Rattle.table.specs.Lists.{Carried, begun, then, follows, told}
-use Rattle.script.specs.Rules.{Found, command, refusal, nothing, readOf, Script, next, stop, end, onward, scriptOf, listed, line, lines, lastLine, outputOf, output, Printed}
+use Rattle.script.specs.Rules.{Found, command, refusal, readOf, Script, next, stop, end, onward, scriptOf, listed, line, lines, lastLine, outputOf, output, Printed}
 use Rattle.script.specs.Answers.{commandAs, readAs}
 use Rattle.script.specs.Sheet.{Sheet, sheet, write, Wrote, carried, printed}
 use Rattle.script.specs.Scripts.{next-takes, goes-on}
