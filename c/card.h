@@ -29,7 +29,7 @@ uint64_t card_tick(uint64_t table[CARD_WORDS]);
 /* kind: 0 extended, 1 extended remote, 2 eleven-bit; bytes: the data, the first byte highest of eight. */
 uint64_t card_foreign(uint64_t table[CARD_WORDS], uint8_t kind, uint32_t header, uint8_t len, uint64_t bytes);
 uint64_t card_message(uint64_t table[CARD_WORDS], size_t index, uint16_t field, uint8_t len, uint64_t bytes);
-uint64_t card_enquiry(uint64_t table[CARD_WORDS], size_t index, uint8_t len, uint64_t id);
+uint64_t card_enquiry(uint64_t table[CARD_WORDS], size_t index, uint8_t len, uint64_t bytes);
 uint64_t card_release(uint64_t table[CARD_WORDS], size_t index);
 
 #endif

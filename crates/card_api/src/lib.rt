@@ -124,10 +124,10 @@ pub extern "C" fn card_message(
 }
 
 #[no_mangle]
-pub extern "C" fn card_enquiry(table: &mut [u64; WORDS], index: usize, len: u8, id: u64) -> u64
-    ensures { λ r. ⌜ Coded (enquiry index len id) (now (table .entry)) r (now (table .exit)) ⌝ }
+pub extern "C" fn card_enquiry(table: &mut [u64; WORDS], index: usize, len: u8, bytes: u64) -> u64
+    ensures { λ r. ⌜ Coded (enquiry index len bytes) (now (table .entry)) r (now (table .exit)) ⌝ }
 {
-    let a = table::commands::enquiry(&mut *table, index, len, id);
+    let a = table::commands::enquiry(&mut *table, index, len, bytes);
     code(a)
 }
 

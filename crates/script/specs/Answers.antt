@@ -12,7 +12,7 @@ commandAs (C.the-variants.Deliver index) = deliver index
 commandAs C.the-variants.Tick = tick
 commandAs (C.the-variants.Foreign f) = foreign f
 commandAs (C.the-variants.Message index field len bytes) = message index field len bytes
-commandAs (C.the-variants.Enquiry index len id) = enquiry index len id
+commandAs (C.the-variants.Enquiry index len id) = enquiry index len (packed (idBytes id))
 commandAs (C.the-variants.Release index) = release index
 
 -- An unknown command is 10, one cut short 11.

@@ -159,14 +159,11 @@ module _ (n : Node) where
   mild-message : (field len bytes : ℕ) → Mild (messages n field len bytes .answer)
   unfolding messages
   mild-message field len bytes =
-      mild-ordered (leb (2 ^ 15) field || ltb 8 len)
-      (record { kind = 0; header = header 1 field (n .alias .0); len = len; bytes = trim len bytes })
+      mild-ordered (leb (2 ^ 15) field || ltb 8 len) (Message field len (trim len bytes))
 
-  mild-enquiry : (len id : ℕ) → Mild (enquires n len id .answer)
+  mild-enquiry : (len bytes : ℕ) → Mild (enquires n len bytes .answer)
   unfolding enquires
-  mild-enquiry len id =
-      mild-ordered (not (eqb len 0) && (not (eqb len 6) || leb (2 ^ 48) id))
-      (cond (eqb len 0) (bare (header 0 0x0702 (n .alias .0))) (withId (header 0 0x0702 (n .alias .0)) id))
+  mild-enquiry len bytes = mild-ordered (not (eqb len 0 || eqb len 6)) (Enquiry len (trim len bytes))
 
   mild-release : Mild (releases n .answer)
   unfolding releases
@@ -196,7 +193,7 @@ mild T (foreign f) =
     (mild-refuse (not (allRoom T)) 5 (accepted done) (omega arith) tt)
 mild T (message n field len bytes) =
     mild-indexed n (messages (at T n .node) field len bytes .answer) (mild-message (at T n .node) field len bytes)
-mild T (enquiry n len id) = mild-indexed n (enquires (at T n .node) len id .answer) (mild-enquiry (at T n .node) len id)
+mild T (enquiry n len bytes) = mild-indexed n (enquires (at T n .node) len bytes .answer) (mild-enquiry (at T n .node) len bytes)
 mild T (release n) = mild-indexed n (releases (at T n .node) .answer) (mild-release (at T n .node))
 
 -- THE LINES of a script

@@ -53,7 +53,7 @@ form b =
     (cond (eqb b 0x05) (makes tick)
     (cond (eqb b 0x06) (operand 1 λ kind. operand 4 λ header. operand 1 λ len. operand 8 λ bytes. makes (foreign (frame kind header len bytes)))
     (cond (eqb b 0x07) (operand 1 λ index. operand 2 λ field. operand 1 λ len. operand 8 λ bytes. makes (message index field len bytes))
-    (cond (eqb b 0x08) (operand 1 λ index. operand 1 λ len. operand 6 λ id. makes (enquiry index len id))
+    (cond (eqb b 0x08) (operand 1 λ index. operand 1 λ len. operand 6 λ id. makes (enquiry index len (packed (idBytes id))))
     (cond (eqb b 0x09) (operand 1 λ index. makes (release index))
     unknown))))))))
 

@@ -42,7 +42,8 @@ fn carry_out(table: &mut [u64; WORDS], command: Command) -> Answer
             bytes,
         } => commands::message(&mut *table, index as usize, field, len, bytes),
         Command::Enquiry { index, len, id } => {
-            commands::enquiry(&mut *table, index as usize, len, id)
+            let bytes = headers::node_id::packed_id(id);
+            commands::enquiry(&mut *table, index as usize, len, bytes)
         }
         Command::Release(index) => commands::release(&mut *table, index as usize),
     }
