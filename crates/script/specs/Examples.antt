@@ -8,6 +8,7 @@ use Rattle.node.specs.Rules.{
   fresh,
   restart,
   moved,
+  counted,
   waits,
   cidFrame,
   ridFrame,
@@ -64,7 +65,7 @@ text =
     ∷ []
 
 pub example : output script ≡ text
-unfolding script text number form readOf onward readUpTo listed digit hex decimalUpTo dataText answerText line lines lastLine outputOf output kept offNode fresh restart moved waits cidFrame ridFrame amdFrame amrFrame reportFrame firstWaiting dueOf sentOf failedOf powerOn leaves kindIn mixed
+unfolding script text number form readOf onward readUpTo listed digit hex decimalUpTo dataText answerText line lines lastLine outputOf output kept offNode fresh restart moved counted waits cidFrame ridFrame amdFrame amrFrame reportFrame firstWaiting dueOf sentOf failedOf powerOn leaves kindIn mixed
 example = refl
 
 -- 12345 FF refused 10

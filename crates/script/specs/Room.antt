@@ -19,9 +19,6 @@ use Rattle.node.specs.Rules.{
   outcome,
   isOff,
   isPermitted,
-  header,
-  bare,
-  withId,
   used as trim,
   moved,
   sentOf,
@@ -30,6 +27,9 @@ use Rattle.node.specs.Rules.{
   withHost,
   hostWaits,
   malformed,
+  Due,
+  nothing,
+  next,
   dueOf,
   dueAnswer,
   failAnswer,
@@ -43,13 +43,11 @@ use Rattle.node.specs.Rules.{
   enquiry as enquires,
   release as releases,
 }
-use Rattle.node.specs.declared.due.Due.{Due}
-use Rattle.node.specs.declared.due.Due.the-variants.{Nothing, Next}
-use Rattle.node.specs.declared.frame.Frame.{Frame}
 use Rattle.node.specs.declared.state.Node.{Node}
 use Rattle.node.specs.declared.state.Phase.the-variants.{Leaving}
 use Rattle.node.specs.declared.state.Reason.the-variants.{Release}
-use Rattle.node.specs.declared.state.Host.the-variants.{Waits}
+use Rattle.node.specs.declared.state.Host.{Host}
+use Rattle.node.specs.declared.state.Host.the-variants.{Message, Enquiry}
 use Rattle.table.specs.Rules.{
   places,
   limit,
@@ -131,8 +129,8 @@ module _ (n : Node) where
       (mild-refuse (isOff (n .phase)) 2 (dueAnswer (dueOf n)) (omega arith) (go (dueOf n)))
     where
       go : (d : Due) → Mild (dueAnswer d)
-      go Nothing = omega arith
-      go (Next f) = tt
+      go nothing = omega arith
+      go (next f) = tt
 
   mild-fails : Mild (fails n .answer)
   unfolding fails
@@ -141,12 +139,12 @@ module _ (n : Node) where
       (mild-refuse (isOff (n .phase)) 2 (failAnswer (dueOf n)) (omega arith) (go (dueOf n)))
     where
       go : (d : Due) → Mild (failAnswer d)
-      go Nothing = omega arith
-      go (Next f) = tt
+      go nothing = omega arith
+      go (next f) = tt
 
-  mild-ordered : (bad : Bool) (f : Frame) → Mild (ordered n bad f .answer)
+  mild-ordered : (bad : Bool) (h : Host) → Mild (ordered n bad h .answer)
   unfolding orders
-  mild-ordered bad f = go (isOff (n .phase)) bad (isPermitted (n .phase)) (hostWaits (n .waiting .host)) (waits n (withHost (n .waiting) (Waits f)))
+  mild-ordered bad h = go (isOff (n .phase)) bad (isPermitted (n .phase)) (hostWaits (n .waiting .host)) (waits n (withHost (n .waiting) h))
     where
       go : (off bad permitted waiting : Bool) (m : Node) → Mild (cond off (outcome (refused 2) n n)
           (cond bad (outcome (refused 9) n n) (outcome (refuse (not permitted) 7 (refuse waiting 8 (accepted done))) n m)) .answer)
