@@ -1,11 +1,10 @@
 -- Frames noted one after another from an empty map: every answer and the entries are what the rules give.
 use mathlib.Core.Path.{_≡_, refl, sym, ap, subst, _∙_}
 use mathlib.Core.List.{List, [], _∷_, _++_, map, append-nil, append-assoc}
-use Prim.Native.Nat.{_^_, _<_}
 use Rattle.node.specs.declared.frame.Frame.{Frame}
-use Rattle.alias_map.specs.Rules.{Answer, accepted, refused, entryIn, note, after}
+use Rattle.alias_map.specs.Rules.{Answer, entryIn, note, after}
 use Rattle.alias_map.specs.Answers.{entriesOf, answerAs, AsWas}
-use Rattle.alias_map.specs.Sound.{Sound, empty-sound, Keeps, note-keeps, Notes}
+use Rattle.alias_map.specs.Sound.{Sound, empty-sound, Notes}
 use Rattle.alias_map.specs.Order.{Within, all, some-of-some, both, note-follows}
 use Rattle.alias_map.specs.declared.entry.Entry.{Entry}
 use Rattle.alias_map.specs.declared.map.Map.{Map}
@@ -54,20 +53,6 @@ in-order es (f ∷ fs) =
     some-of-some (in-order (after (note es f) es) fs)
     (subst (Within (after (note es f) es ++ map entryIn fs)) (append-assoc es (entryIn f ∷ []) (map entryIn fs))
     (both (note-follows es f) (all (map entryIn fs))))
-
--- and are sound, where the frames' data are eight bytes
-abbrev pub EightBytes : List Frame → Type 0
-EightBytes [] = Unit {0}
-EightBytes (f ∷ fs) = (f .bytes < 2 ^ 64) × EightBytes fs
-
-pub run-sound : (es : List Entry) (fs : List Frame) → EightBytes fs → Sound es → Sound (run es fs)
-unfolding run
-run-sound es [] b h = h
-run-sound es (f ∷ fs) b h = run-sound (after (note es f) es) fs (b .1) (go (note es f) (note-keeps es f (b .0) h))
-  where
-    go : (a : Answer (List Entry)) → Keeps a → Sound (after a es)
-    go (accepted new) k = k
-    go (refused number) k = h
 
 follows : {m m′ : Map} {fs : List Frame} {xs : List (Answer (List Entry))} → Carried m fs xs m′
     → (xs ≡ answers (entriesOf m) fs) × (entriesOf m′ ≡ run (entriesOf m) fs) × (Sound (entriesOf m) → Sound (entriesOf m′))
