@@ -1,5 +1,7 @@
 //! The proved library behind a safe function, and what the comparison and the benchmark share.
 
+pub mod setting;
+
 use reference::{claim_holds, Command, Segment};
 
 extern "C" {

@@ -1,5 +1,7 @@
 //! The same scripts through the proved library and through the other implementation, in one process: median ratios.
+//! REPEATS may be given: how often each is run.
 
+use compare::setting::setting;
 use compare::Proved;
 use reference::generate::draft::Draft;
 use reference::generate::prng::Prng;
@@ -7,9 +9,8 @@ use reference::generate::walker::{walk, Temper};
 use std::hint::black_box;
 use std::time::{Duration, Instant};
 
-const REPEATS: usize = 101;
-
 fn main() {
+    let repeats = setting("REPEATS", 1, 101);
     let rows: [(&str, Vec<u8>); 4] = [
         ("ticks, 24 idle nodes", idle_ticks(60_000)),
         ("breaker start of 24", breaker_start(40)),
@@ -18,7 +19,7 @@ fn main() {
     ];
     println!("{:<22} {:>10} {:>10} {:>12} {:>12} {:>6}", "script", "bytes", "commands", "proved", "plain Rust", "ratio");
     for (name, script) in &rows {
-        let (proved, plain) = measure(script);
+        let (proved, plain) = measure(script, repeats);
         let commands = count_lines(script);
         let ratio = proved.as_secs_f64() / plain.as_secs_f64();
         println!("{name:<22} {:>10} {commands:>10} {:>12} {:>12} {ratio:>6.2}", script.len(), millis(proved), millis(plain));
@@ -27,20 +28,20 @@ fn main() {
     println!("{:<22} {:>12} {:>12} {:>12}", "hostile, by length", "bytes", "proved", "ns a byte");
     for commands in [10_000, 20_000, 40_000, 80_000, 160_000] {
         let script = hostile(2, commands);
-        let (proved, _) = measure(&script);
+        let (proved, _) = measure(&script, repeats);
         let each = proved.as_nanos() as f64 / script.len() as f64;
         println!("{:<22} {:>12} {:>12} {each:>12.1}", "", script.len(), millis(proved));
     }
 }
 
 /// The median time of each side, taken in turn.
-fn measure(script: &[u8]) -> (Duration, Duration) {
+fn measure(script: &[u8], repeats: u64) -> (Duration, Duration) {
     let mut proved = Proved::default();
     let mut plain = Vec::new();
     reference::run(script, &mut plain);
     assert_eq!(proved.run(script), plain, "both sides must agree");
     let (mut first, mut second) = (Vec::new(), Vec::new());
-    for _ in 0..REPEATS {
+    for _ in 0..repeats {
         let start = Instant::now();
         black_box(proved.run(black_box(script)));
         first.push(start.elapsed());
