@@ -1,0 +1,34 @@
+# For the scripts that need rt: `prove check NAME` and `prove staticlib NAME`, at the repository's root, show how far rt is.
+
+# Runs rt; says on standard error which crate it proves, of how many, and its last words where it fails.
+prove() { # rt's command, a crate
+    local log=target/rt-$1-$2.log
+    mkdir -p target
+    # shellcheck disable=SC2046
+    rt "$1" "$2" 2>&1 | tee "$log" | show_progress $(crates_below "$2") || { tail -n 20 "$log" >&2; return 1; }
+}
+
+# Prints a crate's name and those of the crates that it needs, as crates.txt has them: what is needed first.
+crates_below() { # a crate
+    sed 's/#.*//' crates.txt | tac | awk -v crate="$1" '
+        BEGIN { needed[crate] = 1 }
+        { name = $1; sub(/:$/, "", name) }
+        needed[name] { print name; for (i = 2; i <= NF; i++) needed[$i] = 1 }' | tac
+}
+
+# Reads what rt says. A crate is named once it takes longer than a second, so that proved ones go by in silence.
+show_progress() { # the crates in order
+    local crates=("$@") at=0 said=0 status line
+    while true; do
+        status=0
+        read -r -t 1 line || status=$?
+        if [ $status -eq 0 ]; then
+            [[ $line != "rt: ${crates[at]:-} proved"* ]] || at=$((at + 1))
+        elif [ $status -le 128 ]; then
+            return
+        elif [ $said -le $at ] && [ $at -lt $# ]; then
+            said=$((at + 1))
+            echo "run: proving crate $said of $#, ${crates[at]} .." >&2
+        fi
+    done
+}
