@@ -1,6 +1,7 @@
 //! The proved library behind a safe function, and what the comparison and the benchmark share.
 
 pub mod setting;
+pub mod shrink;
 
 use reference::{claim_holds, Command, Segment};
 
@@ -26,9 +27,7 @@ impl Proved {
             self.buffer.resize(room, 0);
         }
         // The function is proved to return, to write within the buffer and to answer at most its length.
-        let written = unsafe {
-            script_run(script.as_ptr(), script.len(), self.buffer.as_mut_ptr(), self.buffer.len())
-        };
+        let written = unsafe { script_run(script.as_ptr(), script.len(), self.buffer.as_mut_ptr(), self.buffer.len()) };
         &self.buffer[..written]
     }
 }

@@ -1,5 +1,7 @@
 //! Compares both implementations on fresh random scripts: long and short, valid and damaged. SEED and SCRIPTS may be given.
 
+use compare::setting::setting;
+use compare::shrink::{hex, shrink};
 use compare::{claim_held, Proved};
 use reference::generate::prng::Prng;
 use reference::generate::walker::{walk, Temper};
@@ -10,29 +12,24 @@ use std::process::exit;
 const ROUND: usize = 65_536;
 
 fn main() {
-    let seed = setting("SEED", fresh_seed());
-    let scripts = setting("SCRIPTS", 20_000);
+    let seed = setting("SEED", 0, fresh_seed());
+    let scripts = setting("SCRIPTS", 1, 20_000);
     let mut proved = Proved::default();
     let (mut bytes, mut damaged, mut kept) = (0, 0, 0);
     for number in 0..scripts {
-        let mut rng = Prng::new(seed.wrapping_add(number));
-        let (script, harmed) = script_of(&mut rng);
+        let seed = seed.wrapping_add(number);
+        let (script, harmed) = script_of(&mut Prng::new(seed));
         if !agree(&mut proved, &script) {
-            report(&mut proved, script, seed, number);
+            report(seed, "the outputs differ", &script, |less| !agree(&mut proved, less));
         }
         if !claim_held(&script) {
-            println!("compare: the claim fails on a kept list, SEED={seed} script {number}: {script:02X?}");
-            exit(1);
+            report(seed, "the claim fails on a kept list", &script, |less| !claim_held(less));
         }
         bytes += script.len();
         damaged += usize::from(harmed);
         kept += usize::from(proved.run(&script).ends_with(b"kept\n"));
     }
     println!("compare: {scripts} scripts agree, SEED={seed}: {bytes} bytes, {damaged} damaged, {kept} kept");
-}
-
-fn setting(name: &str, otherwise: u64) -> u64 {
-    std::env::var(name).ok().and_then(|text| text.parse().ok()).unwrap_or(otherwise)
 }
 
 fn fresh_seed() -> u64 {
@@ -81,26 +78,25 @@ fn agree(proved: &mut Proved, script: &[u8]) -> bool {
     proved.run(script) == expected
 }
 
-/// Prints the smallest script found that still differs, and ends the run.
-fn report(proved: &mut Proved, mut script: Vec<u8>, seed: u64, number: u64) -> ! {
-    let mut part = script.len() / 2;
-    while part > 0 {
-        let mut at = 0;
-        while at + part <= script.len() {
-            let mut less = script.clone();
-            less.drain(at..at + part);
-            if agree(proved, &less) {
-                at += part;
-            } else {
-                script = less;
-            }
-        }
-        part /= 2;
-    }
-    let mut expected = Vec::new();
-    reference::run(&script, &mut expected);
-    println!("compare: SEED={seed} script {number} differs; shrunk to {script:02X?}");
-    println!("expected:\n{}", String::from_utf8_lossy(&expected));
-    println!("got:\n{}", String::from_utf8_lossy(proved.run(&script)));
+/// Prints the smallest script found that still fails, all else as comments, so that `./run` takes it; and ends the run.
+fn report(seed: u64, what: &str, script: &[u8], fails: impl FnMut(&[u8]) -> bool) -> ! {
+    eprintln!("compare: {what}; leaving out commands ..");
+    let script = shrink(script, fails);
+    println!("# compare: {what}. SEED={seed} SCRIPTS=1 makes the whole script; this part of it is enough, and ./run takes it:");
+    print!("{}", hex(&script));
+    let mut plain = Vec::new();
+    reference::run(&script, &mut plain);
+    print_first_difference(&plain, Proved::default().run(&script));
     exit(1);
+}
+
+/// The first line in which two outputs differ, if they do.
+fn print_first_difference(plain: &[u8], proved: &[u8]) {
+    let (plain, proved) = (String::from_utf8_lossy(plain), String::from_utf8_lossy(proved));
+    let (plain, proved): (Vec<_>, Vec<_>) = (plain.lines().collect(), proved.lines().collect());
+    let lines = plain.len().max(proved.len());
+    if let Some(at) = (0..lines).find(|&at| plain.get(at) != proved.get(at)) {
+        println!("# plain Rust: {}", plain.get(at).unwrap_or(&"no line"));
+        println!("# proved:     {}", proved.get(at).unwrap_or(&"no line"));
+    }
 }
