@@ -9,8 +9,8 @@ use reference::{claim_holds, run, Command, Node, Segment, State, View};
 
 /// Another seed can be given as SEED.
 fn seed() -> u64 {
-    let given = std::env::var("SEED").ok().and_then(|text| text.parse().ok());
-    given.unwrap_or(0x0201_2100_0001)
+    let given = std::env::var("SEED").ok();
+    given.map_or(0x0201_2100_0001, |text| text.parse().expect("SEED is a whole number"))
 }
 
 #[test]

@@ -1,9 +1,11 @@
 //! The stored corpus reaches every cell that can be reached, and every mark.
 
 use reference::generate::corpus;
-use reference::generate::coverage::{impossible, Coverage, Event, Row};
+use reference::generate::coverage::{Coverage, Event, Row};
 use reference::generate::map_corpus::{self, MapRule};
 use reference::generate::marks::Mark;
+use reference::generate::prng::Prng;
+use reference::generate::walker::{walk, Temper};
 
 #[test]
 fn corpus_of_scripts_is_complete() {
@@ -18,24 +20,22 @@ fn corpus_of_scripts_is_complete() {
     println!("{} marks; a cell is reached {least} times at least", Mark::all().len());
     assert_eq!(cover.missing_cells(), []);
     assert_eq!(cover.missing_marks(), []);
-    assert_eq!(cover.unexpected_cells(), []);
+    assert_eq!(cover.unlisted_cells(), []);
 }
 
-/// Every cell is either reached or listed with a reason; the numbers are for the reader.
+/// By the corpus and by random scripts, which do not know what is called impossible.
 #[test]
-fn impossible_cells_have_reasons() {
-    let mut reasons = std::collections::BTreeMap::new();
-    for row in Row::all() {
-        for event in Event::all() {
-            if let Some(reason) = impossible(row, event) {
-                *reasons.entry(reason).or_insert(0) += 1;
-            }
-        }
+fn no_cell_that_is_called_impossible_is_met() {
+    let mut cover = Coverage::new();
+    for script in corpus::scripts(corpus::SEED) {
+        cover.count_script(&script);
     }
-    for (reason, count) in &reasons {
-        println!("{count} cells: {reason}");
+    for seed in 0..300 {
+        let mut rng = Prng::new(seed);
+        let temper = Temper::random(&mut rng, 1_000);
+        cover.count_script(&walk(&mut rng, temper));
     }
-    assert!(reasons.keys().all(|reason| !reason.is_empty()));
+    assert_eq!(cover.impossible_cells(), []);
 }
 
 #[test]

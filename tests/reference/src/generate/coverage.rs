@@ -322,22 +322,21 @@ impl Coverage {
             .collect()
     }
 
-    /// The cells that were met though they are listed as impossible, or not listed at all.
-    pub fn unexpected_cells(&self) -> Vec<(Row, Event)> {
+    /// The cells that were met though they are called impossible, with the reason that is given for it.
+    pub fn impossible_cells(&self) -> Vec<(Row, Event, &'static str)> {
+        let cells = self.met.iter();
+        cells.filter_map(|&(row, event)| Some((row, event, impossible(row, event)?))).collect()
+    }
+
+    /// The cells that were met though no row or no event of the table is theirs.
+    pub fn unlisted_cells(&self) -> Vec<(Row, Event)> {
         let (rows, events) = (Row::all(), Event::all());
-        let listed = |row: &Row, event: &Event| rows.contains(row) && events.contains(event);
-        let cells = self.met.iter().copied();
-        cells
-            .filter(|(row, event)| !listed(row, event) || impossible(*row, *event).is_some())
-            .collect()
+        let listed = |(row, event): &(Row, Event)| rows.contains(row) && events.contains(event);
+        self.met.iter().filter(|cell| !listed(cell)).copied().collect()
     }
 
     pub fn missing_marks(&self) -> Vec<Mark> {
         Mark::all().into_iter().filter(|mark| !self.marks.met(mark)).collect()
-    }
-
-    pub fn complete(&self) -> bool {
-        self.missing_cells().is_empty() && self.missing_marks().is_empty()
     }
 }
 
