@@ -1,6 +1,6 @@
 -- Laws of scripts: a command takes a byte or more and no more than there are, so that the bound of `readUpTo` ends none.
 use mathlib.Core.Path.{_≡_, refl, ap, subst}
-use Prim.Native.Nat.{ℕ, zero, suc, _+_, _≤_, _<_}
+use Prim.Native.Nat.{ℕ, zero, suc, _+_, _^_, _≤_, _<_}
 use mathlib.Core.Bool.{Bool, true, false, cond}
 use mathlib.Core.List.{List, [], _∷_}
 use native.Mathlib.Omega.{arith}
@@ -31,6 +31,24 @@ pub bounded : (s : List ℕ) → Bounded s (readOf s)
 unfolding readOf
 bounded [] = tt
 bounded (b ∷ s) = by-form b (b ∷ s) (omega arith) (form b) 1 (omega arith)
+
+-- The bytes of a command; a reader moves on by so many.
+abbrev pub taken : Found → ℕ
+taken (command b c took) = took
+taken (refusal b n) = 0
+taken nothing = 0
+
+by-bound : (s : List ℕ) (f : Found) → Bounded s f → taken f ≤ length s
+by-bound s (command b c took) h = h .1
+by-bound s (refusal b n) h = omega arith
+by-bound s nothing h = omega arith
+
+pub taken-within : (s : List ℕ) → taken (readOf s) ≤ length s
+taken-within s = by-bound s (readOf s) (bounded s)
+
+-- So the place behind it is a number of 64 bits where the place and the length are.
+pub moves-within : (s : List ℕ) (at : ℕ) → at < 2 ^ 64 → length s < 2 ^ 64 → at + taken (readOf (drop at s)) < 2 ^ 64
+moves-within s at h l = omega (arith, taken-within (drop at s), length-drop at s)
 
 pub next-takes : (s : List ℕ) {b : ℕ} {c : Command} {took : ℕ} → readOf s ≡ command b c took → (1 ≤ took) × (took ≤ length s)
 next-takes s e = subst (Bounded s) e (bounded s)

@@ -1,5 +1,5 @@
 -- A run, turn by turn: what is written, followed by what is still to come, stays the whole output.
-use mathlib.Core.Path.{_≡_, refl, ap, sym, _∙_}
+use mathlib.Core.Path.{_≡_, refl, ap, sym, subst⁻¹, _∙_}
 use Prim.Native.Nat.{ℕ, _+_, _-_, _≤_, _<_, min}
 use mathlib.Core.Bool.{Bool, true, false, not, cond}
 use mathlib.Core.List.{List, [], _∷_, _++_, append-assoc, append-nil}
@@ -14,39 +14,38 @@ use Rattle.table.specs.Words.{lateOf, Fresh}
 use Rattle.table.specs.Runs.{run-snoc}
 use Rattle.table.specs.Done.{Does}
 use Rattle.table.specs.Lists.{Carried, begun, then, follows, told}
-use Rattle.script.specs.Rules.{Found, command, refusal, readOf, Script, next, stop, end, onward, scriptOf, listed, line, lines, lastLine, outputOf, output, Printed}
-use Rattle.script.specs.Answers.{commandAs, readAs}
+use Rattle.script.specs.Rules.{Found, command, refusal, nothing, readOf, Script, next, stop, end, onward, scriptOf, listed, line, lines, lastLine, outputOf, output, Printed}
+use Rattle.script.specs.Answers.{readAs}
 use Rattle.script.specs.Sheet.{Sheet, sheet, write, Wrote, carried, printed}
-use Rattle.script.specs.Scripts.{next-takes, goes-on}
-use Rattle.script.specs.declared.command.Command as C
-use Rattle.script.specs.declared.command.Read as R
+use Rattle.script.specs.Scripts.{taken, taken-within, next-takes, goes-on}
+use Rattle.script.specs.declared.command.Read.{Read}
 use Rattle.script.specs.declared.program.Progress.{Progress}
 
 -- What the commands cs leave to write, count of them done, where s comes next.
 unfoldable pub ahead : List Command → (count : ℕ) → Script → List ℕ
 ahead cs count s = lines (run start cs) (count + 1) s ++ lastLine (kept limit limit start (cs ++ listed s))
 
-abbrev pub rest : Progress → List ℕ → Script
-rest p script = cond (p .more) (scriptOf (drop (p .at) script)) end
+abbrev pub rest : List ℕ → (at : ℕ) → Progress → Script
+rest script at p = cond (p .more) (scriptOf (drop at script)) end
 
--- The run of a script stands at p, with the words t and the buffer out, which was old at its start: it has carried out a
--- list of commands, and its text is on its way.
-pub record Going (script old : List ℕ) (p : Progress) (t out : List ℕ) : Type 0 where
+-- The run of a script stands at p, and its reader at a place, with the words t and the buffer out, which was old at its
+-- start: it has carried out a list of commands, and its text is on its way.
+pub record Going (script old : List ℕ) (at : ℕ) (p : Progress) (t out : List ℕ) : Type 0 where
   pub commands : List Command
   pub answers : List A.Answer
   pub made : Carried commands answers t
-  pub text : write (sheet out (p .place)) (ahead commands (p .done) (rest p script)) ≡ write (sheet old 0) (output script)
+  pub text : write (sheet out (p .place)) (ahead commands (p .done) (rest script at p)) ≡ write (sheet old 0) (output script)
 
--- There is more to read, and the places are in their bounds.
-pub record Ready (script : List ℕ) (p : Progress) : Type 0 where
-  pub more : p .more ≡ true
-  pub at : p .at ≤ length script
-  pub done : p .done ≤ p .at
+-- A turn with what was read, f, leads from p, t and out to q, t′ and out′, where f stands at the reader's place.
+pub record Turned (p : Progress) (f : Found) (t out : List ℕ) (q : Progress) (t′ out′ : List ℕ) : Type 0 where
+  pub goes : (script : List ℕ) {old : List ℕ} (at : ℕ) → p .more ≡ true → f ≡ readOf (drop at script) → Going script old at p t out → Going script old (at + taken f) q t′ out′
+  pub further : (script : List ℕ) (at : ℕ) → f ≡ readOf (drop at script) → q .more ≡ true → (q .done ≡ p .done + 1) × ((1 ≤ taken f) × (taken f ≤ length (drop at script)))
 
--- A turn leads from p, t and out to q, t′ and out′.
-pub record Turned (script : List ℕ) (p : Progress) (t out : List ℕ) (q : Progress) (t′ out′ : List ℕ) : Type 0 where
-  pub goes : {old : List ℕ} → Going script old p t out → Going script old q t′ out′
-  pub further : q .more ≡ true → (q .done ≡ p .done + 1) × ((p .at < q .at) × (q .at ≤ length script))
+-- A script is read to its end.
+pub record Through (script old : List ℕ) (p : Progress) (t out : List ℕ) : Type 0 where
+  pub at : ℕ
+  pub going : Going script old at p t out
+  pub last : p .more ≡ false
 
 -- THE CASES OF A TURN
 
@@ -71,130 +70,132 @@ ahead-end : (cs : List Command) (n : ℕ) → ahead cs n end ≡ lastLine (kept 
 unfolding ahead lines listed
 ahead-end cs n = ap (λ (l : List Command). lastLine (kept limit limit start l)) (append-nil cs)
 
-rest-none : (p : Progress) (script : List ℕ) → p .more ≡ false → rest p script ≡ end
-rest-none p script e = ap (λ (b : Bool). cond b (scriptOf (drop (p .at) script)) end) e
+rest-none : (script : List ℕ) (at : ℕ) (p : Progress) → p .more ≡ false → rest script at p ≡ end
+rest-none script at p e = ap (λ (b : Bool). cond b (scriptOf (drop at script)) end) e
 
 never : {X : Type 0} (b : Bool) → b ≡ false → b ≡ true → X
 never b e h = let z : _≡_ {A = ℕ} 0 1 = cc in absurd (omega arith)
 
-module _ (script t out : List ℕ) (p : Progress) (ready : Ready script p) (rd : R.Read) (e : readAs rd ≡ readOf (drop (p .at) script)) where
-  by-read : {x : R.Read} → rd ≡ x → rest p script ≡ onward (readAs x) (λ u. scriptOf (drop u (drop (p .at) script)))
-  by-read h =
-      ap (λ (b : Bool). cond b (scriptOf (drop (p .at) script)) end) (ready .more)
-      ∙ goes-on (drop (p .at) script)
-      ∙ ap (λ (f : Found). onward f (λ u. scriptOf (drop u (drop (p .at) script)))) (sym e ∙ ap readAs h)
+-- What comes next, by what stands at the place.
+rest-by : (script : List ℕ) (at : ℕ) (p : Progress) {f : Found} → p .more ≡ true → f ≡ readOf (drop at script)
+    → rest script at p ≡ onward f (λ u. scriptOf (drop u (drop at script)))
+rest-by script at p more e =
+    ap (λ (b : Bool). cond b (scriptOf (drop at script)) end) more
+    ∙ goes-on (drop at script)
+    ∙ ap (λ (f : Found). onward f (λ u. scriptOf (drop u (drop at script)))) (sym e)
 
-  rest-next : {b took : ℕ} {c : C.Command} → rd ≡ R.the-variants.Next b c took → rest p script ≡ next b (commandAs c) (scriptOf (drop (p .at + took) script))
-  unfolding onward
-  rest-next {b} {took} {c} h = by-read h ∙ rw (drop-drop took (p .at) script)
-
-  rest-unknown : {b : ℕ} → rd ≡ R.the-variants.Unknown b → rest p script ≡ stop b 10
-  unfolding onward
-  rest-unknown h = by-read h
-
-  rest-cut : {b : ℕ} → rd ≡ R.the-variants.CutShort b → rest p script ≡ stop b 11
-  unfolding onward
-  rest-cut h = by-read h
-
-  rest-end : rd ≡ R.the-variants.End → rest p script ≡ end
-  unfolding onward
-  rest-end h = by-read h
-
+module _ (t out : List ℕ) (p : Progress) where
   -- a command on the table, and its line
-  module _ (t′ out′ : List ℕ) (b took to : ℕ) (c : C.Command) (a : A.Answer) (h : rd ≡ R.the-variants.Next b c took) where
+  module _ (t′ out′ : List ℕ) (b took to : ℕ) (c : Command) (a : A.Answer) where
     abbrev after : Progress
-    after = record { at = p .at + took; done = p .done + 1; place = to; more = true }
+    after = record { done = p .done + 1; place = to; more = true }
 
-    goes-next : Does (commandAs c) t a t′ → Wrote (sheet out (p .place)) (line (p .done + 1) b (answerAs a)) (sheet out′ to)
-        → {old : List ℕ} → Going script old p t out → Going script old after t′ out′
-    goes-next does wrote g = record {
-      commands = g .commands ++ commandAs c ∷ [];
+    rest-next : (script : List ℕ) (at : ℕ) → p .more ≡ true → command b c took ≡ readOf (drop at script) → rest script at p ≡ next b c (scriptOf (drop (at + took) script))
+    unfolding onward
+    rest-next script at more e = rest-by script at p more e ∙ rw (drop-drop took at script)
+
+    goes-next : Does c t a t′ → Wrote (sheet out (p .place)) (line (p .done + 1) b (answerAs a)) (sheet out′ to)
+        → (script : List ℕ) {old : List ℕ} (at : ℕ) → p .more ≡ true → command b c took ≡ readOf (drop at script) → Going script old at p t out → Going script old (at + took) after t′ out′
+    goes-next does wrote script {old} at more e g = record {
+      commands = g .commands ++ c ∷ [];
       answers = g .answers ++ a ∷ [];
       made = then (g .made) does;
       text =
-          carried (ahead (g .commands ++ commandAs c ∷ []) (p .done + 1) (scriptOf (drop (p .at + took) script))) wrote
+          carried (ahead (g .commands ++ c ∷ []) (p .done + 1) (scriptOf (drop (at + took) script))) wrote
           ∙ ap (write (sheet out (p .place)))
-          (ap (λ (x : Answer Value). line (p .done + 1) b x ++ ahead (g .commands ++ commandAs c ∷ []) (p .done + 1) (scriptOf (drop (p .at + took) script))) (told (follows (g .made)) does)
-          ∙ sym (ahead-next (g .commands) (p .done) b (commandAs c) (scriptOf (drop (p .at + took) script)))
-          ∙ ap (ahead (g .commands) (p .done)) (sym (rest-next h)))
+          (ap (λ (x : Answer Value). line (p .done + 1) b x ++ ahead (g .commands ++ c ∷ []) (p .done + 1) (scriptOf (drop (at + took) script))) (told (follows (g .made)) does)
+          ∙ sym (ahead-next (g .commands) (p .done) b c (scriptOf (drop (at + took) script)))
+          ∙ ap (ahead (g .commands) (p .done)) (sym (rest-next script at more e)))
           ∙ g .text;
     }
 
-    pub turned-next : Does (commandAs c) t a t′ → Wrote (sheet out (p .place)) (line (p .done + 1) b (answerAs a)) (sheet out′ to)
-        → Turned script p t out after t′ out′
-    turned-next does wrote =
-        let u : (1 ≤ took) × (took ≤ length (drop (p .at) script)) = next-takes (drop (p .at) script) (sym e ∙ ap readAs h) in
-        record { goes = goes-next does wrote; further = λ _. (refl, (omega arith, omega (arith, length-drop (p .at) script, ready .at))) }
+    pub turned-next : Does c t a t′ → Wrote (sheet out (p .place)) (line (p .done + 1) b (answerAs a)) (sheet out′ to)
+        → Turned p (command b c took) t out after t′ out′
+    turned-next does wrote = record { goes = goes-next does wrote; further = λ script at e _. (refl, next-takes (drop at script) (sym e)) }
 
   -- a refusal of the script's own, and its line
-  module _ (q : Progress) (out′ : List ℕ) (last : q .more ≡ false) where
-    stops : {b n : ℕ} → rest p script ≡ stop b n → Wrote (sheet out (p .place)) (line (p .done + 1) b (refused n)) (sheet out′ (q .place))
-        → Turned script p t out q t out′
-    stops {b} {n} is wrote = record {
-      goes = λ {old} g. record {
-        commands = g .commands;
-        answers = g .answers;
-        made = g .made;
-        text =
-            ap (λ (s : Script). write (sheet out′ (q .place)) (ahead (g .commands) (q .done) s)) (rest-none q script last)
-            ∙ carried (ahead (g .commands) (q .done) end) wrote
-            ∙ ap (write (sheet out (p .place)))
-            (sym (ahead-stop (g .commands) (p .done) (q .done) b n) ∙ ap (ahead (g .commands) (p .done)) (sym is))
-            ∙ g .text;
-      };
-      further = never (q .more) last;
-    }
-
-    pub turned-unknown : {b : ℕ} → rd ≡ R.the-variants.Unknown b
-        → Wrote (sheet out (p .place)) (line (p .done + 1) b (refused 10)) (sheet out′ (q .place)) → Turned script p t out q t out′
-    turned-unknown h wrote = stops (rest-unknown h) wrote
-
-    pub turned-cut : {b : ℕ} → rd ≡ R.the-variants.CutShort b
-        → Wrote (sheet out (p .place)) (line (p .done + 1) b (refused 11)) (sheet out′ (q .place)) → Turned script p t out q t out′
-    turned-cut h wrote = stops (rest-cut h) wrote
-
-  -- the end of the bytes
-  pub turned-end : rd ≡ R.the-variants.End
-      → Turned script p t out (record { at = p .at; done = p .done; place = p .place; more = false }) t out
-  turned-end h = record {
-    goes = λ {old} g. record {
+  pub turned-stop : (q : Progress) (out′ : List ℕ) {b n : ℕ} → q .more ≡ false → Wrote (sheet out (p .place)) (line (p .done + 1) b (refused n)) (sheet out′ (q .place))
+      → Turned p (refusal b n) t out q t out′
+  unfolding onward
+  turned-stop q out′ {b} {n} last wrote = record {
+    goes = λ script {old} at more e g. record {
       commands = g .commands;
       answers = g .answers;
       made = g .made;
-      text = ap (λ (s : Script). write (sheet out (p .place)) (ahead (g .commands) (p .done) s)) (sym (rest-end h)) ∙ g .text;
+      text =
+          ap (λ (s : Script). write (sheet out′ (q .place)) (ahead (g .commands) (q .done) s)) (rest-none script (at + 0) q last)
+          ∙ carried (ahead (g .commands) (q .done) end) wrote
+          ∙ ap (write (sheet out (p .place)))
+          (sym (ahead-stop (g .commands) (p .done) (q .done) b n) ∙ ap (ahead (g .commands) (p .done)) (sym (rest-by script at p more e)))
+          ∙ g .text;
     };
-    further = never false refl;
+    further = λ script at e. never (q .more) last;
   }
+
+  -- the end of the bytes
+  pub turned-end : Turned p nothing t out (record { done = p .done; place = p .place; more = false }) t out
+  unfolding onward
+  turned-end = record {
+    goes = λ script {old} at more e g. record {
+      commands = g .commands;
+      answers = g .answers;
+      made = g .made;
+      text = ap (λ (s : Script). write (sheet out (p .place)) (ahead (g .commands) (p .done) s)) (sym (rest-by script at p more e)) ∙ g .text;
+    };
+    further = λ script at e. never false refl;
+  }
+
+-- the same of what the code has read
+pub by-read : {p q : Progress} {t out t′ out′ : List ℕ} {x y : Read} → x ≡ y → Turned p (readAs y) t out q t′ out′ → Turned p (readAs x) t out q t′ out′
+by-read {p} {q} {t} {out} {t′} {out′} e turned = subst⁻¹ (λ (r : Read). Turned p (readAs r) t out q t′ out′) e turned
 
 -- THE LOOP
 
-abbrev pub begin : Progress
-begin = record { at = 0; done = 0; place = 0; more = true }
+-- Where a run stands between two turns.
+pub record Standing (script old : List ℕ) (at : ℕ) (p : Progress) (t out : List ℕ) : Type 0 where
+  pub going : Going script old at p t out
+  pub within : at ≤ length script
+  pub counted : p .more ≡ true → p .done ≤ at
 
-pub going-begun : (script old t : List ℕ) → Fresh t → Going script old begin t old
+abbrev pub begin : Progress
+begin = record { done = 0; place = 0; more = true }
+
+pub standing-begun : (script old t : List ℕ) → Fresh t → Standing script old 0 begin t old
 unfolding ahead output outputOf run
-going-begun script old t fresh = record { commands = []; answers = []; made = begun fresh; text = refl }
+standing-begun script old t fresh = record {
+  going = record { commands = []; answers = []; made = begun fresh; text = refl };
+  within = omega arith;
+  counted = λ _. omega arith;
+}
 
 -- How many bytes are left, and one more while there may be more.
-abbrev pub left : List ℕ → Progress → ℕ
-left script p = cond (p .more) (1 + (length script - p .at)) 0
+abbrev pub left : List ℕ → (at : ℕ) → Progress → ℕ
+left script at p = cond (p .more) (1 + (length script - at)) 0
 
-module _ (script t out t′ out′ : List ℕ) (p q : Progress) (turned : Turned script p t out q t′ out′) (ready : Ready script p) where
-  falls : (b : Bool) → q .more ≡ b → cond b (1 + (length script - q .at)) 0 < 1 + (length script - p .at)
-  falls true h = let o = turned .further h in omega (arith, o .1 .0, o .1 .1)
+module _ (script old t out t′ out′ : List ℕ) (at : ℕ) (p q : Progress) (f : Found) (more : p .more ≡ true) (e : f ≡ readOf (drop at script))
+    (stands : Standing script old at p t out) (turned : Turned p f t out q t′ out′) where
+  pub standing-on : Standing script old (at + taken f) q t′ out′
+  standing-on = record {
+    going = turned .goes script at more e (stands .going);
+    within = let u : taken f ≤ length (drop at script) = subst⁻¹ (λ (x : Found). taken x ≤ length (drop at script)) e (taken-within (drop at script)) in omega (arith, length-drop at script, stands .within);
+    counted = λ h. let o = turned .further script at e h in omega (arith, o .0, o .1 .0, stands .counted more);
+  }
+
+  falls : (b : Bool) → q .more ≡ b → cond b (1 + (length script - (at + taken f))) 0 < 1 + (length script - at)
+  falls true h = let o = turned .further script at e h in omega (arith, o .1 .0, o .1 .1, length-drop at script)
   falls false h = omega arith
 
-  pub fewer : left script q < left script p
-  fewer = rw (ready .more) (falls (q .more) refl)
-
-  pub ready-again : q .more ≡ true → Ready script q
-  ready-again h = let o = turned .further h in record { more = h; at = o .1 .1; done = omega (arith, o .0, o .1 .0, ready .done) }
+  pub fewer : left script (at + taken f) q < left script at p
+  fewer = rw more (falls (q .more) refl)
 
 -- The last line ends the output.
-pub going-printed : (script old t out new : List ℕ) (p : Progress) (r : ℕ) (late : Bool) → Going script old p t out → p .more ≡ false → late ≡ lateOf t
+pub through-printed : (script old t out new : List ℕ) (p : Progress) (r : ℕ) (late : Bool) → Through script old p t out → late ≡ lateOf t
     → Wrote (sheet out (p .place)) (lastLine (not late)) (sheet new r) → Printed (output script) old new r
-going-printed script old t out new p r late g last is wrote = record { bytes = ap (λ (s : Sheet). s .text) whole; count = ap (λ (s : Sheet). s .at) whole }
+through-printed script old t out new p r late through is wrote = record { bytes = ap (λ (s : Sheet). s .text) whole; count = ap (λ (s : Sheet). s .at) whole }
   where
+    g : Going script old (through .at) p t out
+    g = through .going
+
     twice : (b : Bool) → not (not b) ≡ b
     twice true = refl
     twice false = refl
@@ -202,8 +203,10 @@ going-printed script old t out new p r late g last is wrote = record { bytes = a
     isKept : not late ≡ kept limit limit start (g .commands)
     isKept = ap not (is ∙ follows (g .made) .late) ∙ twice (kept limit limit start (g .commands))
 
-    text : lastLine (not late) ≡ ahead (g .commands) (p .done) (rest p script)
-    text = ap lastLine isKept ∙ sym (ahead-end (g .commands) (p .done)) ∙ ap (ahead (g .commands) (p .done)) (sym (rest-none p script last))
+    text : lastLine (not late) ≡ ahead (g .commands) (p .done) (rest script (through .at) p)
+    text =
+        ap lastLine isKept ∙ sym (ahead-end (g .commands) (p .done))
+        ∙ ap (ahead (g .commands) (p .done)) (sym (rest-none script (through .at) p (through .last)))
 
     whole : sheet new r ≡ sheet (take (length old) (output script) ++ drop (length (output script)) old) (min (length old) (length (output script)))
     whole = wrote .is ∙ ap (write (sheet out (p .place))) text ∙ g .text ∙ printed old (output script)

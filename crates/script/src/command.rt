@@ -6,6 +6,7 @@ ghost use lib.ListN.{length, drop};
 ghost use Rattle.script.specs.Rules.{number, form, readOf};
 ghost use Rattle.script.specs.Answers.{commandAs, readAs};
 ghost use Rattle.script.specs.Forms.{Takes, made, Whole};
+ghost use Rattle.script.specs.Scripts.{taken};
 
 pub enum Command {
     PowerOn {
@@ -42,6 +43,24 @@ pub enum Read {
     },
     Unknown(u8),
     CutShort(u8),
+}
+
+impl Read {
+    // How many bytes of the script are behind it: those of a command.
+    pub(crate) fn took(self) -> usize
+        ensures { λ r. ⌜ r ≡ taken (readAs self) ⌝ }
+    {
+        match self {
+            Read::End => 0,
+            Read::Next {
+                byte: _,
+                command: _,
+                took,
+            } => took,
+            Read::Unknown(_) => 0,
+            Read::CutShort(_) => 0,
+        }
+    }
 }
 
 fn wide(x: u8) -> u64

@@ -8,17 +8,17 @@ use table::commands;
 use table::layout::WORDS;
 ghost use mathlib.Core.Path.{_≡_};
 ghost use mathlib.Core.Bool.{false};
+ghost use Prim.Native.Nat.{_+_, _<_, _^_};
 ghost use Rattle.node.specs.Rules.{refused};
+ghost use Rattle.table.specs.Words.{Fresh};
 ghost use Rattle.table.specs.Done.{Does};
 ghost use Rattle.script.specs.Rules.{line, output, used, Printed, PrintedWhole};
-ghost use Rattle.script.specs.Answers.{commandAs};
+ghost use Rattle.script.specs.Answers.{commandAs, readAs};
 ghost use Rattle.script.specs.Sheet.{sheet, Wrote};
-ghost use Rattle.script.specs.Turns.{Ready, Turned};
+ghost use Rattle.script.specs.Turns.{Turned, Through};
 
-// Where a run stands: the place in the script, how many commands have their line, the place in the buffer, and whether
-// there may be more to read.
+// Where a run stands: how many commands have their line, the place in the buffer, and whether there may be more to read.
 pub(crate) struct Progress {
-    pub at: usize,
     pub done: u64,
     pub place: usize,
     pub more: bool,
@@ -55,23 +55,20 @@ fn stopped(run: Progress, out: &mut [u8], count: u64, byte: u8, number: u8) -> P
 {
     let place = lines::put_refused(out, run.place, count, byte, number);
     Progress {
-        at: run.at,
         done: count,
         place,
         more: false,
     }
 }
 
-// One command of the script, and its line.
-fn turn(run: Progress, script: &[u8], table: &mut [u64; WORDS], out: &mut [u8]) -> Progress
-    requires { ⌜ Ready (now script) run ⌝ }
-    ensures { λ r. ⌜ Turned (now (script .entry)) run (now (table .entry)) (now (out .entry)) r (now (table .exit)) (now (out .exit)) ⌝ }
+// What was read of the script is carried out, and gets its line.
+fn turn(run: Progress, read: Read, table: &mut [u64; WORDS], out: &mut [u8]) -> Progress
+    requires { ⌜ run .done + 1 < 2 ^ 64 ⌝ }
+    ensures { λ r. ⌜ Turned run (readAs read) (now (table .entry)) (now (out .entry)) r (now (table .exit)) (now (out .exit)) ⌝ }
 {
-    let at = run.at;
     let count = run.done + 1;
-    match reader::read_from(script, at) {
+    match read {
         Read::End => Progress {
-            at,
             done: run.done,
             place: run.place,
             more: false,
@@ -79,12 +76,11 @@ fn turn(run: Progress, script: &[u8], table: &mut [u64; WORDS], out: &mut [u8]) 
         Read::Next {
             byte,
             command,
-            took,
+            took: _,
         } => {
             let answer = carry_out(&mut *table, command);
             let place = lines::put_line(out, run.place, count, byte, answer);
             Progress {
-                at: at + took,
                 done: count,
                 place,
                 more: true,
@@ -95,21 +91,31 @@ fn turn(run: Progress, script: &[u8], table: &mut [u64; WORDS], out: &mut [u8]) 
     }
 }
 
+// A whole script on a table with all nodes Off: one reader moves through it, command by command.
+fn run_through(script: &[u8], table: &mut [u64; WORDS], out: &mut [u8]) -> Progress
+    requires { ⌜ Fresh (now table) ⌝ }
+    ensures { λ r. ⌜ Through (now (script .entry)) (now (out .entry)) r (now (table .exit)) (now (out .exit)) ⌝ }
+{
+    let mut reader = reader::new(script);
+    let mut run = Progress {
+        done: 0,
+        place: 0,
+        more: true,
+    };
+    while run.more {
+        let read = reader::next(&mut reader);
+        run = turn(run, read, table, out);
+    }
+    run
+}
+
 // The whole output of a script, from all nodes Off, as far as the buffer has room for it, and how many bytes of it that is.
 pub fn run(script: &[u8], out: &mut [u8]) -> usize
     ensures { λ r. ⌜ Printed (output (now (script .entry))) (now (out .entry)) (now (out .exit)) r ⌝ }
 {
     let mut table = [0u64; WORDS];
     commands::new(&mut table);
-    let mut run = Progress {
-        at: 0,
-        done: 0,
-        place: 0,
-        more: true,
-    };
-    while run.more {
-        run = turn(run, script, &mut table, out);
-    }
+    let run = run_through(script, &mut table, out);
     let late = commands::is_late(&table);
     let place = run.place;
     lines::put_last(out, place, late)

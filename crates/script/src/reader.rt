@@ -1,9 +1,11 @@
 // A script and a place in it that moves forward.
 use crate::command::Read;
 ghost use mathlib.Core.Path.{_≡_};
+ghost use Prim.Native.Nat.{_+_};
 ghost use lib.ListN.{drop};
 ghost use Rattle.script.specs.Rules.{readOf};
 ghost use Rattle.script.specs.Answers.{readAs};
+ghost use Rattle.script.specs.Scripts.{taken};
 
 pub struct Reader<'a> {
     pub script: &'a [u8],
@@ -17,26 +19,11 @@ pub fn new<'a>(script: &'a [u8]) -> Reader<'a>
     Reader { script, at: 0 }
 }
 
-// The same script at another place.
-pub fn moved<'a>(r: Reader<'a>, at: usize) -> Reader<'a>
-    ensures { λ q. ⌜ (q .script ≡ r .entry .script) × (q .at ≡ at) ⌝ }
+// What stands at the reader's place, which moves on by the bytes of a command.
+pub fn next<'s, 'a>(r: &'s mut Reader<'a>) -> Read
+    ensures { λ s. ⌜ (readAs s ≡ readOf (drop (now (r .entry) .at) (now (now (r .entry) .script)))) × ((now (r .exit) .script ≡ now (r .entry) .script) × (now (r .exit) .at ≡ now (r .entry) .at + taken (readAs s))) ⌝ }
 {
-    Reader {
-        script: r.script,
-        at,
-    }
-}
-
-// What stands at the reader's place.
-pub fn next<'a>(r: Reader<'a>) -> Read
-    ensures { λ s. ⌜ readAs s ≡ readOf (drop (r .entry .at) (now (r .entry .script))) ⌝ }
-{
-    crate::command::read_at(r.script, r.at)
-}
-
-// The same for a caller that holds the script and the place.
-pub fn read_from(script: &[u8], at: usize) -> Read
-    ensures { λ r. ⌜ readAs r ≡ readOf (drop at (now (script .entry))) ⌝ }
-{
-    next(moved(new(script), at))
+    let read = crate::command::read_at(r.script, r.at);
+    r.at = r.at + read.took();
+    read
 }
