@@ -1,11 +1,11 @@
 -- How long an output can be: a script of 65,536 bytes has at most as many lines of 38 bytes, and a last one of 5.
-use mathlib.Core.Path.{_≡_, refl, ap, sym, subst, subst⁻¹, _∙_}
-use Prim.Native.Nat.{ℕ, zero, suc, _+_, _*_, _%_, _^_, _≤_, _<_, min}
+use mathlib.Core.Path.{_≡_, ap, sym, subst, subst⁻¹, _∙_}
+use Prim.Native.Nat.{ℕ, zero, suc, _+_, _*_, _%_, _^_, _≤_, _<_}
 use mathlib.Core.Bool.{Bool, true, false, not, cond, _&&_, _||_}
-use mathlib.Core.List.{List, [], _∷_, _++_}
+use mathlib.Core.List.{List, _++_}
 use native.Mathlib.Omega.{arith}
 use lib.Dec.{ltb, leb, eqb}
-use lib.ListN.{length, take, drop, length-append, length-take, length-drop}
+use lib.ListN.{length, drop, length-append, length-take, length-drop}
 use lib.Seq.{take-all, length-take-le}
 use Rattle.headers.specs.Rules.{badNodeId}
 use Rattle.node.specs.Rules.{
@@ -15,7 +15,6 @@ use Rattle.node.specs.Rules.{
   refuse,
   Value,
   done,
-  Outcome,
   outcome,
   isOff,
   isPermitted,
@@ -87,9 +86,7 @@ use Rattle.script.specs.Rules.{
   readUpTo,
   scriptOf,
   listed,
-  line,
   lines,
-  lastLine,
   outputOf,
   output,
   used,

@@ -2,7 +2,6 @@ use Rattle.script.specs.Forms.{single, at-key, at-rest}
 use Rattle.script.specs.Rules.{form}
 use denote.Ref.{now}
 use native.Mathlib.Omega.{arith}
-use borrow.Author.Tests.{ne-eqb}
 use borrow.Author.Needs.{needs}
 use Rattle.script.proofs.command.command_of.Statement.{statement}
 use Rattle.script.proofs.command.command_of.Tie as tie

@@ -1,8 +1,6 @@
 use mathlib.Core.Path.{sym, _∙_}
 use Rattle.script.specs.Text.{without-none, without-more}
-use denote.Ref.{now}
 use native.Mathlib.Omega.{arith}
-use borrow.Author.Needs.{needs}
 use Prim.Native.Nat.{ℕ, _<_}
 use borrow.Fn.Kinds.{In}
 use borrow.Fn.PlainCycle.{Measures, is, falls, and}

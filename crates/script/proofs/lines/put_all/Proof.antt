@@ -8,9 +8,6 @@ use native.Mathlib.Omega.{arith}
 use borrow.Author.Needs.{needs}
 use Rattle.script.proofs.lines.put_all.Statement.{statement}
 use Rattle.script.proofs.lines.put_all.Tie as tie
-use Rattle.script.proofs.lines.put_all.Reads as reads
-use Rattle.script.proofs.lines.put_all.Lts as lts
-use Rattle.script.proofs.lines.put.Reads as put-reads
 
 abbrev Inv-loop : tie.InvT-loop
 Inv-loop out₀ at bytes place₀ i₀ out place i = (i ≤ length bytes) × ((length out ≡ length out₀) × Wrote (sheet out₀ at) (take i bytes) (sheet out place))

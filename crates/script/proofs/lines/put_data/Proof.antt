@@ -2,9 +2,9 @@ use native.Mathlib.Omega.{arith}
 use Rattle.script.specs.Rules.{hex}
 use Rattle.script.specs.Sheet.{blank, then, alike}
 use Rattle.script.specs.Text.{data-none, data-short, data-long}
-use mathlib.Core.List.{List, [], _∷_, _++_}
+use mathlib.Core.List.{[], _∷_, _++_}
 use Prim.Native.Nat.{ℕ, _*_}
-use mathlib.Core.Path.{sym, ap, _∙_, refl}
+use mathlib.Core.Path.{ap, _∙_}
 use borrow.Author.Needs.{needs}
 use Rattle.script.proofs.lines.put_data.Statement.{statement}
 use Rattle.script.proofs.lines.put_data.Tie as tie

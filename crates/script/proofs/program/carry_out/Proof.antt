@@ -1,5 +1,3 @@
-use denote.Ref.{now}
-use mathlib.Core.Path.{sym, ap}
 use borrow.Author.Needs.{needs}
 use Rattle.script.proofs.program.carry_out.Statement.{statement}
 use Rattle.script.proofs.program.carry_out.Tie as tie
