@@ -38,8 +38,10 @@ pub record Going (script old : List ℕ) (at : ℕ) (p : Progress) (t out : List
 
 -- A turn with what was read, f, leads from p, t and out to q, t′ and out′, where f stands at the reader's place.
 pub record Turned (p : Progress) (f : Found) (t out : List ℕ) (q : Progress) (t′ out′ : List ℕ) : Type 0 where
-  pub goes : (script : List ℕ) {old : List ℕ} (at : ℕ) → p .more ≡ true → f ≡ readOf (drop at script) → Going script old at p t out → Going script old (at + taken f) q t′ out′
-  pub further : (script : List ℕ) (at : ℕ) → f ≡ readOf (drop at script) → q .more ≡ true → (q .done ≡ p .done + 1) × ((1 ≤ taken f) × (taken f ≤ length (drop at script)))
+  pub goes : (script : List ℕ) {old : List ℕ} (at : ℕ) → p .more ≡ true → f ≡ readOf (drop at script)
+      → Going script old at p t out → Going script old (at + taken f) q t′ out′
+  pub further : (script : List ℕ) (at : ℕ) → f ≡ readOf (drop at script)
+      → q .more ≡ true → (q .done ≡ p .done + 1) × ((1 ≤ taken f) × (taken f ≤ length (drop at script)))
 
 -- A script is read to its end.
 pub record Through (script old : List ℕ) (p : Progress) (t out : List ℕ) : Type 0 where
@@ -90,12 +92,14 @@ module _ (t out : List ℕ) (p : Progress) where
     abbrev after : Progress
     after = record { done = p .done + 1; place = to; more = true }
 
-    rest-next : (script : List ℕ) (at : ℕ) → p .more ≡ true → command b c took ≡ readOf (drop at script) → rest script at p ≡ next b c (scriptOf (drop (at + took) script))
+    rest-next : (script : List ℕ) (at : ℕ) → p .more ≡ true → command b c took ≡ readOf (drop at script)
+        → rest script at p ≡ next b c (scriptOf (drop (at + took) script))
     unfolding onward
     rest-next script at more e = rest-by script at p more e ∙ rw (drop-drop took at script)
 
     goes-next : Does c t a t′ → Wrote (sheet out (p .place)) (line (p .done + 1) b (answerAs a)) (sheet out′ to)
-        → (script : List ℕ) {old : List ℕ} (at : ℕ) → p .more ≡ true → command b c took ≡ readOf (drop at script) → Going script old at p t out → Going script old (at + took) after t′ out′
+        → (script : List ℕ) {old : List ℕ} (at : ℕ) → p .more ≡ true → command b c took ≡ readOf (drop at script)
+        → Going script old at p t out → Going script old (at + took) after t′ out′
     goes-next does wrote script {old} at more e g = record {
       commands = g .commands ++ c ∷ [];
       answers = g .answers ++ a ∷ [];
@@ -103,7 +107,8 @@ module _ (t out : List ℕ) (p : Progress) where
       text =
           carried (ahead (g .commands ++ c ∷ []) (p .done + 1) (scriptOf (drop (at + took) script))) wrote
           ∙ ap (write (sheet out (p .place)))
-          (ap (λ (x : Answer Value). line (p .done + 1) b x ++ ahead (g .commands ++ c ∷ []) (p .done + 1) (scriptOf (drop (at + took) script))) (told (follows (g .made)) does)
+          (ap (λ (x : Answer Value). line (p .done + 1) b x ++ ahead (g .commands ++ c ∷ []) (p .done + 1) (scriptOf (drop (at + took) script)))
+          (told (follows (g .made)) does)
           ∙ sym (ahead-next (g .commands) (p .done) b c (scriptOf (drop (at + took) script)))
           ∙ ap (ahead (g .commands) (p .done)) (sym (rest-next script at more e)))
           ∙ g .text;
@@ -114,8 +119,8 @@ module _ (t out : List ℕ) (p : Progress) where
     turned-next does wrote = record { goes = goes-next does wrote; further = λ script at e _. (refl, next-takes (drop at script) (sym e)) }
 
   -- a refusal of the script's own, and its line
-  pub turned-stop : (q : Progress) (out′ : List ℕ) {b n : ℕ} → q .more ≡ false → Wrote (sheet out (p .place)) (line (p .done + 1) b (refused n)) (sheet out′ (q .place))
-      → Turned p (refusal b n) t out q t out′
+  pub turned-stop : (q : Progress) (out′ : List ℕ) {b n : ℕ} → q .more ≡ false
+      → Wrote (sheet out (p .place)) (line (p .done + 1) b (refused n)) (sheet out′ (q .place)) → Turned p (refusal b n) t out q t out′
   unfolding onward
   turned-stop q out′ {b} {n} last wrote = record {
     goes = λ script {old} at more e g. record {
@@ -146,7 +151,8 @@ module _ (t out : List ℕ) (p : Progress) where
   }
 
 -- the same of what the code has read
-pub by-read : {p q : Progress} {t out t′ out′ : List ℕ} {x y : Read} → x ≡ y → Turned p (readAs y) t out q t′ out′ → Turned p (readAs x) t out q t′ out′
+pub by-read : {p q : Progress} {t out t′ out′ : List ℕ} {x y : Read} → x ≡ y
+    → Turned p (readAs y) t out q t′ out′ → Turned p (readAs x) t out q t′ out′
 by-read {p} {q} {t} {out} {t′} {out′} e turned = subst⁻¹ (λ (r : Read). Turned p (readAs r) t out q t′ out′) e turned
 
 -- THE LOOP
@@ -177,7 +183,7 @@ module _ (script old t out t′ out′ : List ℕ) (at : ℕ) (p q : Progress) (
   pub standing-on : Standing script old (at + taken f) q t′ out′
   standing-on = record {
     going = turned .goes script at more e (stands .going);
-    within = let u : taken f ≤ length (drop at script) = subst⁻¹ (λ (x : Found). taken x ≤ length (drop at script)) e (taken-within (drop at script)) in omega (arith, length-drop at script, stands .within);
+    within = omega (arith, ap taken e, taken-within (drop at script), length-drop at script, stands .within);
     counted = λ h. let o = turned .further script at e h in omega (arith, o .0, o .1 .0, stands .counted more);
   }
 
