@@ -1,0 +1,285 @@
+-- Demand 3, one claim about every list of commands: what the commands promise, carried from all nodes Off through any list.
+use mathlib.Core.Path.{_≡_, refl, sym, ap, subst, _∙_}
+use mathlib.Core.Logic.{_≢_}
+use mathlib.Core.Bool.{Bool, true, false, not, cond, _||_, _&&_, and-assoc}
+use mathlib.Core.List.{List, [], _∷_, _++_, map, map-append}
+use Prim.Native.Nat.{ℕ, _+_, _*_, _<_, _≤_}
+use native.Mathlib.Omega.{arith}
+use lib.Dec.{ltb}
+use borrow.Author.Tests.{not-true, lt-ltb, ltb-true}
+use Rattle.node.specs.Rules.{Answer, accepted, refused, Value, timedFor, wait, uses, offNode, next, dueOf}
+use Rattle.node.specs.Answers.{answerAs}
+use Rattle.node.specs.declared.answer.Answer as A
+use Rattle.node.specs.declared.frame.Frame.{Frame}
+use Rattle.node.specs.declared.state.Node.{Node}
+use Rattle.table.specs.Rules.{
+  places,
+  limit,
+  Place,
+  place,
+  Segment,
+  segment,
+  blank,
+  start,
+  Command,
+  one,
+  send,
+  tick,
+  foreign,
+  answer,
+  effect,
+  placeBy,
+  stepBy,
+  step,
+  run,
+  answers,
+  Ages,
+  none,
+  agesBy,
+  passes,
+  ageBy,
+  ticks,
+  old,
+  oldAt,
+  ageStep,
+  aged,
+  kept,
+}
+use Rattle.table.specs.Words.{Cell, cell, frameOf, nodeAt, inbox, placeOf, agesOf, cellAt, lateOf, view, viewAges, Fresh}
+use Rattle.table.specs.WordLaws.{view-at, ages-at}
+use Rattle.table.specs.AgeLaws.{
+  around,
+  allAround,
+  around-step,
+  InLimit,
+  out-any,
+  limit-by,
+  limit-passes,
+  limit-more,
+  limit-young,
+  young-limit,
+  old-at,
+  old-none,
+  old-around,
+  Falls,
+}
+use Rattle.table.specs.Single.{both, noAges, single, one-meaning}
+use Rattle.table.specs.Promise.{bound, Sound, Done, Does}
+
+-- A LIST, carried out by the code: the commands cs, one after another on one table from all nodes Off, answered as and left
+-- the words t. `Fresh` is what `new` ensures, `Does` what each command ensures.
+pub data Carried : List Command → List A.Answer → List ℕ → Type 0 where
+  begun : {t : List ℕ} → Fresh t → Carried [] [] t
+  then : {cs : List Command} {xs : List A.Answer} {t : List ℕ} {c : Command} {a : A.Answer} {t′ : List ℕ}
+      → Carried cs xs t → Does c t a t′ → Carried (cs ++ c ∷ []) (xs ++ a ∷ []) t′
+
+-- A list is kept, under limits for inbox frames and for what waits, where no age in it exceeds its limit.
+abbrev pub isKept : (i o : ℕ) → List Command → Bool
+isKept i o cs = kept ticks i o start noAges cs
+
+-- THE CLAIM. What the rules give is `run start cs`, from the list's commands alone.
+pub record Claim (cs : List Command) (xs : List A.Answer) (t : List ℕ) : Type 0 where
+  -- every answer: accepted, for a send with the frame that left, or the refusal's number
+  pub answered : map answerAs xs ≡ answers start cs
+  -- each node, and so its state, its alias in Testing, every alias it uses, and its due frame or that it has none
+  pub nodes : (k : ℕ) → k < places → nodeAt t k ≡ run start cs .at k .node
+  -- each inbox in order, frames with their kinds
+  pub inboxes : (k : ℕ) → k < places → map frameOf (inbox t k) ≡ run start cs .at k .inbox
+  -- late exactly when some age in the list exceeded the limit
+  pub late : lateOf t ≡ not (isKept limit limit cs)
+  -- where the list is kept, no two nodes use one alias
+  pub one-user : isKept limit limit cs ≡ true → (p q : ℕ) → p < places → q < places → p ≢ q
+      → uses (nodeAt t p .phase) ≡ true → uses (nodeAt t q .phase) ≡ true → nodeAt t p .alias .0 ≢ nodeAt t q .alias .0
+  -- and no two have due frames with identical headers and different data
+  pub one-meaning : isKept limit limit cs ≡ true → (p q : ℕ) → p < places → q < places → p ≢ q → (f g : Frame)
+      → dueOf wait (nodeAt t p) ≡ next f → dueOf wait (nodeAt t q) ≡ next g → f .header ≡ g .header → (f .len ≡ g .len) × (f .bytes ≡ g .bytes)
+
+-- LISTS WITH ONE MORE COMMAND
+
+run-snoc : (S : Segment) (cs : List Command) (c : Command) → run S (cs ++ (c ∷ [])) ≡ step (run S cs) c
+unfolding run
+run-snoc S [] c = refl
+run-snoc S (d ∷ cs) c = run-snoc (step S d) cs c
+
+answers-snoc : (S : Segment) (cs : List Command) (c : Command)
+    → answers S (cs ++ (c ∷ [])) ≡ answers S cs ++ (answer (run S cs) c ∷ [])
+unfolding run answers
+answers-snoc S [] c = refl
+answers-snoc S (d ∷ cs) c = ap (λ (xs : List (Answer Value)). answer S d ∷ xs) (answers-snoc (step S d) cs c)
+
+aged-snoc : (S : Segment) (G : ℕ → Ages) (cs : List Command) (c : Command)
+    → aged ticks S G (cs ++ (c ∷ [])) ≡ ageStep ticks (run S cs) (aged ticks S G cs) c
+unfolding run aged
+aged-snoc S G [] c = refl
+aged-snoc S G (d ∷ cs) c = aged-snoc (step S d) (ageStep ticks S G d) cs c
+
+module _ (i o : ℕ) where
+  kept-snoc : (S : Segment) (G : ℕ → Ages) (cs : List Command) (c : Command)
+      → kept ticks i o S G (cs ++ (c ∷ []))
+      ≡ (kept ticks i o S G cs && not (old i o places (step (run S cs) c) (ageStep ticks (run S cs) (aged ticks S G cs) c)))
+  unfolding run aged kept
+  kept-snoc S G [] c = refl
+  kept-snoc S G (d ∷ cs) c =
+      ap (λ (b : Bool). not (old i o places S G) && b) (kept-snoc (step S d) (ageStep ticks S G d) cs c)
+      ∙ sym (and-assoc (not (old i o places S G)) (kept ticks i o (step S d) (ageStep ticks S G d) cs) _)
+
+  -- a kept list leaves no age that exceeds its limit
+  kept-young : (S : Segment) (G : ℕ → Ages) (cs : List Command) → kept ticks i o S G cs ≡ true → old i o places (run S cs) (aged ticks S G cs) ≡ false
+  unfolding run aged kept
+  kept-young S G [] e = not-true (old i o places S G) e
+  kept-young S G (d ∷ cs) e =
+      kept-young (step S d) (ageStep ticks S G d) cs (both (not (old i o places S G)) (kept ticks i o (step S d) (ageStep ticks S G d) cs) e .1)
+
+-- a command lets at most one tick pass
+one-tick : (c : Command) → ticks c ≤ 1
+one-tick (one n x) = omega arith
+one-tick (send n) = omega arith
+one-tick tick = omega arith
+one-tick (foreign f) = omega arith
+
+-- with no age above the limit before, none is above one more
+limit-step : (S : Segment) (G : ℕ → Ages) (c : Command) (k : ℕ) → k < places → InLimit limit limit (S .at k .node) (G k)
+    → InLimit (limit + 1) (limit + 1) (step S c .at k .node) (ageStep ticks S G c k)
+limit-step S G c k hk h = go (answer S c)
+  where
+    m : Place
+    m = placeBy (effect S c k) (S .at k)
+
+    now : Ages
+    now = agesBy (effect S c k) (S .at k .node) (G k)
+
+    in-range : (b : Bool) → b ≡ true
+        → InLimit (limit + 1) (limit + 1) (cond b m (S .at k) .node) (cond b (passes (ticks c) (m .node) now) (G k))
+    in-range b e =
+        rw e (limit-more (limit + ticks c) (limit + ticks c) (limit + 1) (limit + 1) (omega (arith, one-tick c)) (omega (arith, one-tick c)) (m .node) (passes (ticks c) (m .node) now)
+        (limit-passes limit limit (ticks c) (m .node) now (limit-by limit limit (effect S c k) (S .at k) (G k) h)))
+
+    go : (x : Answer Value) → InLimit (limit + 1) (limit + 1) (stepBy x S c .at k .node) (ageBy (ticks c) x S G c k)
+    go (accepted v) = in-range (ltb k places) (lt-ltb k places hk)
+    go (refused number) = limit-more limit limit (limit + 1) (limit + 1) (omega arith) (omega arith) (S .at k .node) (G k) h
+
+-- WHAT IS CARRIED THROUGH THE LIST: the answers, the segment, the ages modulo the round, and late
+
+pub record Followed (cs : List Command) (xs : List A.Answer) (t : List ℕ) : Type 0 where
+  pub answered : map answerAs xs ≡ answers start cs
+  pub table : view t ≡ run start cs
+  pub ages : viewAges t ≡ allAround (aged ticks start noAges cs)
+  pub late : lateOf t ≡ not (isKept limit limit cs)
+  pub sound : Sound t
+
+-- a command's answer is what the rules give
+pub told : {cs : List Command} {xs : List A.Answer} {t : List ℕ} {c : Command} {a : A.Answer} {t′ : List ℕ} → Followed cs xs t → Does c t a t′
+    → answerAs a ≡ answer (run start cs) c
+told {c = c} F d = d (F .sound) .answered ∙ ap (λ (S : Segment). answer S c) (F .table)
+
+module _ (cs : List Command) (xs : List A.Answer) (t : List ℕ) (c : Command) (a : A.Answer) (t′ : List ℕ) (F : Followed cs xs t) (d : Does c t a t′) where
+  abbrev D : Done c t a t′
+  D = d (F .sound)
+
+  abbrev S : Segment
+  S = run start cs
+
+  abbrev G : ℕ → Ages
+  G = aged ticks start noAges cs
+
+  table-on : view t′ ≡ step S c
+  table-on = D .table ∙ ap (λ (S : Segment). step S c) (F .table)
+
+  ages-on : viewAges t′ ≡ allAround (ageStep ticks S G c)
+  ages-on =
+      D .ages
+      ∙ (λ j. allAround (ageStep ticks (F .table j) (F .ages j) c))
+      ∙ around-step S G c
+
+  late-on : lateOf t′ ≡ not (isKept limit limit cs && not (old limit limit places (step S c) (ageStep ticks S G c)))
+  late-on = D .late ∙ go (isKept limit limit cs) refl
+    where
+      exact : isKept limit limit cs ≡ true → old limit limit places (view t′) (viewAges t′) ≡ old limit limit places (step S c) (ageStep ticks S G c)
+      exact e =
+          (λ j. old limit limit places (table-on j) (ages-on j))
+          ∙ old-around (limit + 1) (omega arith) limit limit places (step S c) (ageStep ticks S G c)
+          (λ k h. limit-step S G c k h (young-limit limit limit (S .at k .node) (G k) (old-at limit limit places S G k (kept-young limit limit start noAges cs e) h)))
+
+      twice : (b : Bool) → b ≡ not (not b)
+      twice true = refl
+      twice false = refl
+
+      go : (b : Bool) → isKept limit limit cs ≡ b → (lateOf t || old limit limit places (view t′) (viewAges t′)) ≡ not (b && not (old limit limit places (step S c) (ageStep ticks S G c)))
+      go true e = (λ j. (F .late ∙ ap not e) j || exact e j) ∙ twice (old limit limit places (step S c) (ageStep ticks S G c))
+      go false e = ap (λ (b : Bool). b || old limit limit places (view t′) (viewAges t′)) (F .late ∙ ap not e)
+
+  follow : Followed (cs ++ c ∷ []) (xs ++ a ∷ []) t′
+  follow = record {
+    answered = map-append answerAs xs (a ∷ []) ∙ (λ i. F .answered i ++ told F d i ∷ []) ∙ sym (answers-snoc start cs c);
+    table = table-on ∙ sym (run-snoc start cs c);
+    ages = ages-on ∙ ap allAround (sym (aged-snoc start noAges cs c));
+    late = late-on ∙ ap not (sym (kept-snoc limit limit start noAges cs c));
+    sound = D .sound;
+  }
+
+-- ALL NODES OFF
+
+module _ {t : List ℕ} (f : Fresh t) where
+  fresh-table : view t ≡ start
+  unfolding view
+  fresh-table = λ j. segment (λ k. at k (ltb k places) refl j)
+    where
+      at : (k : ℕ) (b : Bool) → ltb k places ≡ b → cond b (placeOf (cellAt t k)) blank ≡ blank
+      at k true e = ap placeOf (f .cells k (ltb-true k places e))
+      at k false e = refl
+
+  fresh-ages : viewAges t ≡ allAround noAges
+  unfolding viewAges
+  fresh-ages = λ j k. at k (ltb k places) refl j
+    where
+      at : (k : ℕ) (b : Bool) → ltb k places ≡ b → cond b (agesOf (cellAt t k)) none ≡ around none
+      at k true e = ap agesOf (f .cells k (ltb-true k places e))
+      at k false e = refl
+
+  pub fresh-sound : Sound t
+  fresh-sound = record {
+    held = f .held;
+    young = λ e k h. subst (λ (x : Cell). InLimit (bound t) (bound t) (x .node) (agesOf x)) (sym (f .cells k h)) nothing-old;
+    falling = λ e k h. subst (λ (x : Cell). Falls (x .inbox)) (sym (f .cells k h)) tt;
+  }
+    where
+      nothing-old : InLimit (bound t) (bound t) offNode none
+      nothing-old = record { inbox = tt; waiting = λ a. out-any (bound t) (timedFor offNode a) 0 (omega arith) }
+
+pub follows : {cs : List Command} {xs : List A.Answer} {t : List ℕ} → Carried cs xs t → Followed cs xs t
+unfolding run answers aged kept
+follows (begun f) = record {
+  answered = refl;
+  table = fresh-table f;
+  ages = fresh-ages f;
+  late = f .late ∙ sym (ap (λ (b : Bool). not (not b)) (old-none limit limit places start noAges (λ k h. limit-young limit limit offNode none no-age)));
+  sound = fresh-sound f;
+}
+  where
+    no-age : InLimit limit limit offNode none
+    no-age = record { inbox = tt; waiting = λ a. out-any limit (timedFor offNode a) 0 (omega arith) }
+follows (then r d) = follow _ _ _ _ _ _ (follows r) d
+
+module _ {cs : List Command} {xs : List A.Answer} {t : List ℕ} (r : Carried cs xs t) (k : ℕ) (h : k < places) where
+  same-place : placeOf (cellAt t k) ≡ run start cs .at k
+  same-place = sym (view-at t k h) ∙ ap (λ (S : Segment). S .at k) (follows r .table)
+
+  same-node : nodeAt t k ≡ run start cs .at k .node
+  same-node = ap (λ (p : Place). p .node) same-place
+
+-- DEMAND 3, for any number of commands and any operands, equal Node IDs at two indexes included.
+pub claim : {cs : List Command} {xs : List A.Answer} {t : List ℕ} → Carried cs xs t → Claim cs xs t
+claim {cs} {xs} {t} r = record {
+  answered = follows r .answered;
+  nodes = λ k h. same-node r k h;
+  inboxes = λ k h. ap (λ (p : Place). p .inbox) (same-place r k h);
+  late = follows r .late;
+  one-user = λ e p q hp hq ne u v x. single limit limit (omega arith) (omega arith) cs e p q hp hq ne
+      (ap (λ (n : Node). uses (n .phase)) (sym (same-node r p hp)) ∙ u)
+      (ap (λ (n : Node). uses (n .phase)) (sym (same-node r q hq)) ∙ v)
+      (ap (λ (n : Node). n .alias .0) (sym (same-node r p hp)) ∙ x ∙ ap (λ (n : Node). n .alias .0) (same-node r q hq));
+  one-meaning = λ e p q hp hq ne f g df dg x. one-meaning limit limit (omega arith) (omega arith) cs e p q hp hq ne f g
+      (ap (dueOf wait) (sym (same-node r p hp)) ∙ df)
+      (ap (dueOf wait) (sym (same-node r q hq)) ∙ dg)
+      x;
+}
