@@ -7,7 +7,7 @@ use Rattle.node.specs.Answers.{refusalAs}
 use Rattle.node.specs.declared.answer.Answer.{Answer}
 use Rattle.node.specs.declared.answer.Answer.the-variants.{Accepted, Sent, Refused}
 use Rattle.table.specs.Rules.{Command}
-use Rattle.table.specs.Done.{Does}
+use Rattle.table.specs.Promise.{Does}
 
 -- 0 where accepted, else the refusal's number.
 abbrev pub codeOf : Answer → ℕ

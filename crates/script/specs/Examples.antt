@@ -19,13 +19,13 @@ use Rattle.node.specs.Rules.{
   dueOf,
   sentOf,
   failedOf,
-  powerOn,
-  leaves,
+  onPowerOn,
+  onLeave,
   accepted,
   refused,
   left,
 }
-use Rattle.table.specs.Rules.{kept}
+use Rattle.table.specs.Rules.{roomBut, old, kept}
 use Rattle.script.specs.Rules.{
   number,
   form,
@@ -65,7 +65,7 @@ text =
     ∷ []
 
 pub example : output script ≡ text
-unfolding script text number form readOf onward readUpTo listed digit hex decimalUpTo dataText answerText line lines lastLine outputOf output kept offNode fresh restart moved counted waits cidFrame ridFrame amdFrame amrFrame reportFrame firstWaiting dueOf sentOf failedOf powerOn leaves kindIn mixed
+unfolding script text number form readOf onward readUpTo listed digit hex decimalUpTo dataText answerText line lines lastLine outputOf output roomBut old kept offNode fresh restart moved counted waits cidFrame ridFrame amdFrame amrFrame reportFrame firstWaiting dueOf sentOf failedOf onPowerOn onLeave kindIn mixed
 example = refl
 
 -- 12345 FF refused 10

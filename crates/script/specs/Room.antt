@@ -7,68 +7,30 @@ use native.Mathlib.Omega.{arith}
 use lib.Dec.{ltb, leb, eqb}
 use lib.ListN.{length, drop, length-append, length-take, length-drop}
 use lib.Seq.{take-all, length-take-le}
-use Rattle.headers.specs.Rules.{badNodeId}
-use Rattle.node.specs.Rules.{
-  Answer,
-  accepted,
-  refused,
-  refuse,
-  Value,
-  done,
-  outcome,
-  isOff,
-  isPermitted,
-  used as trim,
-  moved,
-  sentOf,
-  failedOf,
-  waits,
-  withHost,
-  hostWaits,
-  malformed,
-  Due,
-  nothing,
-  next,
-  dueOf,
-  dueAnswer,
-  failAnswer,
-  poweredBy,
-  powerOn as powers,
-  leaves,
-  fails,
-  orders,
-  ordered,
-  message as messages,
-  enquiry as enquires,
-  release as releases,
-}
+use Rattle.node.specs.Rules as N
+use Rattle.node.specs.Rules.{Answer, accepted, refused, refuse, Value, done, wait, isOff, malformed, onLeave}
+use Rattle.node.specs.Refusals.{TwoDigits, two-refuse, two-digits}
 use Rattle.node.specs.declared.state.Node.{Node}
-use Rattle.node.specs.declared.state.Phase.the-variants.{Leaving}
-use Rattle.node.specs.declared.state.Reason.the-variants.{Release}
-use Rattle.node.specs.declared.state.Host.{Host}
-use Rattle.node.specs.declared.state.Host.the-variants.{Message, Enquiry}
 use Rattle.table.specs.Rules.{
   places,
   limit,
-  kept,
-  Places,
-  at,
+  isKept,
+  Place,
+  Segment,
   start,
+  Act,
+  orders,
+  delivers,
   Command,
-  powerOn,
+  one,
   send,
-  fail,
-  deliver,
   tick,
   foreign,
-  message,
-  enquiry,
-  release,
   indexed,
   thenRoom,
   roomBut,
-  allRoom,
   isEmpty,
+  answerAt,
   answer,
   step,
 }
@@ -94,102 +56,30 @@ use Rattle.script.specs.Rules.{
   PrintedWhole,
 }
 use Rattle.script.specs.Scripts.{Bounded, bounded}
-use Rattle.script.specs.Text.{Mild, line-short, last-short}
+use Rattle.script.specs.Text.{line-short, last-short}
 
 -- THE SEGMENT'S REFUSALS have two digits at most
 
-mild-refuse : (t : Bool) (n : ℕ) (a : Answer Value) → n < 100 → Mild a → Mild (refuse t n a)
-mild-refuse true n a h m = h
-mild-refuse false n a h m = m
+two-room : (a : Answer Value) (room : Bool) → TwoDigits a → TwoDigits (thenRoom a room)
+two-room (accepted v) room t = two-refuse (not room) 5 (accepted v) (omega arith) tt
+two-room (refused n) room t = t
 
-mild-outcome : (a : Answer Value) (before after : Node) → Mild a → Mild (outcome a before after .answer)
-mild-outcome (accepted v) before after m = m
-mild-outcome (refused n) before after m = m
+two-at : (p : Place) (x : Act) → TwoDigits (answerAt p x)
+two-at p (orders x) = two-digits wait (p .node) (N.order x)
+two-at p delivers =
+    two-refuse (isOff (p .node .phase)) 2 (refuse (isEmpty (p .inbox)) 6 (accepted done)) (omega arith)
+    (two-refuse (isEmpty (p .inbox)) 6 (accepted done) (omega arith) tt)
 
-mild-room : (a : Answer Value) (room : Bool) → Mild a → Mild (thenRoom a room)
-mild-room (accepted v) room m = mild-refuse (not room) 5 (accepted v) (omega arith) tt
-mild-room (refused n) room m = m
-
-module _ (n : Node) where
-  mild-power : (id : ℕ) → Mild (powers n id .answer)
-  unfolding powers
-  mild-power id = go (badNodeId id) (1 + id % 4095)
-    where
-      go : (t : Bool) (a : ℕ) → Mild (poweredBy (refuse t 3 (accepted a)) n id .answer)
-      go true a = omega arith
-      go false a = tt
-
-  mild-leaves : Mild (leaves n .answer)
-  unfolding leaves
-  mild-leaves =
-      mild-outcome (refuse (isOff (n .phase)) 2 (dueAnswer (dueOf n))) n (sentOf n)
-      (mild-refuse (isOff (n .phase)) 2 (dueAnswer (dueOf n)) (omega arith) (go (dueOf n)))
-    where
-      go : (d : Due) → Mild (dueAnswer d)
-      go nothing = omega arith
-      go (next f) = tt
-
-  mild-fails : Mild (fails n .answer)
-  unfolding fails
-  mild-fails =
-      mild-outcome (refuse (isOff (n .phase)) 2 (failAnswer (dueOf n))) n (failedOf n)
-      (mild-refuse (isOff (n .phase)) 2 (failAnswer (dueOf n)) (omega arith) (go (dueOf n)))
-    where
-      go : (d : Due) → Mild (failAnswer d)
-      go nothing = omega arith
-      go (next f) = tt
-
-  mild-ordered : (bad : Bool) (h : Host) → Mild (ordered n bad h .answer)
-  unfolding orders
-  mild-ordered bad h = go (isOff (n .phase)) bad (isPermitted (n .phase)) (hostWaits (n .waiting .host)) (waits n (withHost (n .waiting) h))
-    where
-      go : (off bad permitted waiting : Bool) (m : Node) → Mild (cond off (outcome (refused 2) n n)
-          (cond bad (outcome (refused 9) n n) (outcome (refuse (not permitted) 7 (refuse waiting 8 (accepted done))) n m)) .answer)
-      go true bad permitted waiting m = omega arith
-      go false true permitted waiting m = omega arith
-      go false false false waiting m = omega arith
-      go false false true true m = omega arith
-      go false false true false m = tt
-
-  mild-message : (field len bytes : ℕ) → Mild (messages n field len bytes .answer)
-  unfolding messages
-  mild-message field len bytes =
-      mild-ordered (leb (2 ^ 15) field || ltb 8 len) (Message field len (trim len bytes))
-
-  mild-enquiry : (len bytes : ℕ) → Mild (enquires n len bytes .answer)
-  unfolding enquires
-  mild-enquiry len bytes = mild-ordered (not (eqb len 0 || eqb len 6)) (Enquiry len (trim len bytes))
-
-  mild-release : Mild (releases n .answer)
-  unfolding releases
-  mild-release = go (isOff (n .phase)) (isPermitted (n .phase)) (moved n (Leaving Release))
-    where
-      go : (off permitted : Bool) (m : Node) → Mild (outcome (refuse off 2 (refuse (not permitted) 7 (accepted done))) n m .answer)
-      go true permitted m = omega arith
-      go false false m = omega arith
-      go false true m = tt
-
-mild-indexed : (n : ℕ) (a : Answer Value) → Mild a → Mild (indexed n a)
-mild-indexed n a m = mild-refuse (leb places n) 1 a (omega arith) m
-
-mild : (T : Places) (c : Command) → Mild (answer T c)
-mild T (powerOn n id) = mild-indexed n (powers (at T n .node) id .answer) (mild-power (at T n .node) id)
-mild T (send n) =
-    mild-indexed n (thenRoom (leaves (at T n .node) .answer) (roomBut n T))
-    (mild-room (leaves (at T n .node) .answer) (roomBut n T) (mild-leaves (at T n .node)))
-mild T (fail n) = mild-indexed n (fails (at T n .node) .answer) (mild-fails (at T n .node))
-mild T (deliver n) =
-    mild-indexed n (refuse (isOff (at T n .node .phase)) 2 (refuse (isEmpty (at T n .inbox)) 6 (accepted done)))
-    (mild-refuse (isOff (at T n .node .phase)) 2 (refuse (isEmpty (at T n .inbox)) 6 (accepted done)) (omega arith)
-    (mild-refuse (isEmpty (at T n .inbox)) 6 (accepted done) (omega arith) tt))
-mild T tick = tt
-mild T (foreign f) =
-    mild-refuse (malformed f) 9 (refuse (not (allRoom T)) 5 (accepted done)) (omega arith)
-    (mild-refuse (not (allRoom T)) 5 (accepted done) (omega arith) tt)
-mild T (message n field len bytes) =
-    mild-indexed n (messages (at T n .node) field len bytes .answer) (mild-message (at T n .node) field len bytes)
-mild T (enquiry n len bytes) = mild-indexed n (enquires (at T n .node) len bytes .answer) (mild-enquiry (at T n .node) len bytes)
-mild T (release n) = mild-indexed n (releases (at T n .node) .answer) (mild-release (at T n .node))
+two-answer : (S : Segment) (c : Command) → TwoDigits (answer S c)
+two-answer S (one n x) = two-refuse (leb places n) 1 (answerAt (S .at n) x) (omega arith) (two-at (S .at n) x)
+two-answer S (send n) =
+    let a = thenRoom (onLeave wait (S .at n .node) .answer) (roomBut n places S) in
+    two-refuse (leb places n) 1 a (omega arith)
+    (two-room (onLeave wait (S .at n .node) .answer) (roomBut n places S) (two-digits wait (S .at n .node) N.leave))
+two-answer S tick = tt
+two-answer S (foreign f) =
+    two-refuse (malformed f) 9 (refuse (not (roomBut places places S)) 5 (accepted done)) (omega arith)
+    (two-refuse (not (roomBut places places S)) 5 (accepted done) (omega arith) tt)
 
 -- THE LINES of a script
 
@@ -227,11 +117,11 @@ unfolding readUpTo
 small zero s = tt
 small (suc k) s = small-onward s (λ took. readUpTo k (drop took s)) (λ took. small k (drop took s)) (readOf s) (bounded s)
 
-lines-short : (T : Places) (count : ℕ) (s : Script) → Small s → count + size s ≤ 100000 → length (lines T count s) ≤ 38 * size s
+lines-short : (T : Segment) (count : ℕ) (s : Script) → Small s → count + size s ≤ 100000 → length (lines T count s) ≤ 38 * size s
 unfolding lines
 lines-short T count (next b c s) sm h =
     let more : length (lines (step T c) (count + 1) s) ≤ 38 * size s = lines-short (step T c) (count + 1) s sm (omega arith) in
-    rw length-append (omega (arith, line-short count b (answer T c) (omega arith) (mild T c)))
+    rw length-append (omega (arith, line-short count b (answer T c) (omega arith) (two-answer T c)))
 lines-short T count (stop b n) sm h = omega (arith, line-short count b (refused n) (omega arith) sm)
 lines-short T count end sm h = omega arith
 
@@ -240,7 +130,7 @@ unfolding output outputOf
 room s h =
     let z : size (scriptOf s) ≤ length s = few (length s + 1) s in
     rw length-append
-    (omega (arith, lines-short start 1 (scriptOf s) (small (length s + 1) s) (omega arith), last-short (kept limit limit start (listed (scriptOf s)))))
+    (omega (arith, lines-short start 1 (scriptOf s) (small (length s + 1) s) (omega arith), last-short (isKept limit limit (listed (scriptOf s)))))
 
 -- A buffer with that room holds the whole output.
 pub whole : (s u old new : List ℕ) (r : ℕ) → u ≡ used s → 65536 * 38 + 5 ≤ length old → Printed (output u) old new r

@@ -10,7 +10,7 @@ use Rattle.node.specs.Rules.{Answer, accepted, refused, Value, done, left, idBy
 use Rattle.node.specs.declared.frame.Frame.{Frame}
 use Rattle.table.specs.Rules.{
   limit,
-  Places,
+  Segment,
   start,
   Command,
   powerOn,
@@ -24,7 +24,7 @@ use Rattle.table.specs.Rules.{
   release,
   answer,
   step,
-  kept,
+  isKept,
 }
 
 -- THE OPERANDS
@@ -147,11 +147,11 @@ answerText (refused n) = refusedWord ++ decimal n
 unfoldable pub line : (count byte : ℕ) → Answer Value → List ℕ
 line count byte a = decimal count ++ space ++ hex 2 byte ++ space ++ answerText a ++ feed
 
--- Per command one line, in a script that goes on from the table T with this count.
-unfoldable pub lines : Places → (count : ℕ) → Script → List ℕ
-lines T count (next b c s) = line count b (answer T c) ++ lines (step T c) (count + 1) s
-lines T count (stop b n) = line count b (refused n)
-lines T count end = []
+-- Per command one line, in a script that goes on from the segment S with this count.
+unfoldable pub lines : Segment → (count : ℕ) → Script → List ℕ
+lines S count (next b c s) = line count b (answer S c) ++ lines (step S c) (count + 1) s
+lines S count (stop b n) = line count b (refused n)
+lines S count end = []
 
 -- "kept" or "late", and a line feed.
 unfoldable pub lastLine : (isKept : Bool) → List ℕ
@@ -159,7 +159,7 @@ lastLine isKept = cond isKept (107 ∷ 101 ∷ 112 ∷ 116 ∷ feed) (108 ∷ 97
 
 -- THE OUTPUT of a whole script, from all nodes Off: its lines counted from 1, and the last one.
 unfoldable pub outputOf : Script → List ℕ
-outputOf s = lines start 1 s ++ lastLine (kept limit limit start (listed s))
+outputOf s = lines start 1 s ++ lastLine (isKept limit limit (listed s))
 
 unfoldable pub output : List ℕ → List ℕ
 output bytes = outputOf (scriptOf bytes)

@@ -9,6 +9,7 @@ use borrow.Author.Tests.{lt-ltb, le-ltb, eq-eqb, ne-eqb, ltb-false}
 use lib.Dec.{ltb, eqb}
 use lib.ListN.{length, take, length-append, length-take}
 use lib.Seq.{take-all, take-append-le}
+use Rattle.node.specs.Refusals.{TwoDigits}
 use Rattle.node.specs.Rules.{Answer, accepted, refused, Value, done, left}
 use Rattle.script.specs.Rules.{digit, hex, decimalUpTo, decimal, space, dataText, answerText, line, lastLine}
 
@@ -154,23 +155,18 @@ unfolding decimalUpTo
 digits-short zero m n h = omega arith
 digits-short (suc k) m n h = one-more (decimalUpTo k (n / 10)) m n (λ j g. digits-short k j (n / 10) g) (ltb n 10) refl h
 
--- A refusal's number has two digits at most.
-abbrev pub Mild : Answer Value → Type 0
-Mild (accepted v) = Unit {0}
-Mild (refused n) = n < 100
-
 data-few : (b : Bool) (len bytes : ℕ) → length (cond b [] (space ++ take (2 * len) (hex 16 bytes))) ≤ 17
 data-few true len bytes = omega arith
 data-few false len bytes = omega (arith, length-take (2 * len) (hex 16 bytes), length-hex 16 bytes)
 
-answer-short : (a : Answer Value) → Mild a → length (answerText a) ≤ 28
+answer-short : (a : Answer Value) → TwoDigits a → length (answerText a) ≤ 28
 unfolding answerText dataText
 answer-short (accepted done) m = omega arith
 answer-short (accepted (left f)) m =
     omega (arith, length-append (hex 8 (f .header)) (dataText (f .len) (f .bytes)), length-hex 8 (f .header), data-few (eqb (f .len) 0) (f .len) (f .bytes))
 answer-short (refused n) m = omega (arith, digits-short (suc n) 1 n m)
 
-pub line-short : (count byte : ℕ) (a : Answer Value) → count < 100000 → Mild a → length (line count byte a) ≤ 38
+pub line-short : (count byte : ℕ) (a : Answer Value) → count < 100000 → TwoDigits a → length (line count byte a) ≤ 38
 unfolding line
 line-short count byte a h m =
     simp (length-append, length-hex) (omega (arith, digits-short (suc count) 4 count h, answer-short a m))

@@ -9,11 +9,10 @@ use lib.Seq.{drop-drop}
 use Rattle.node.specs.Rules.{Answer, Value, refused}
 use Rattle.node.specs.Answers.{answerAs}
 use Rattle.node.specs.declared.answer.Answer as A
-use Rattle.table.specs.Rules.{limit, start, Command, answer, step, run, kept}
+use Rattle.table.specs.Rules.{limit, start, Command, answer, step, run, isKept}
 use Rattle.table.specs.Words.{lateOf, Fresh}
-use Rattle.table.specs.Runs.{run-snoc}
-use Rattle.table.specs.Done.{Does}
-use Rattle.table.specs.Lists.{Carried, begun, then, follows, told}
+use Rattle.table.specs.Promise.{Does}
+use Rattle.table.specs.Claim.{Carried, begun, then, run-snoc, follows, told}
 use Rattle.script.specs.Rules.{Found, command, refusal, nothing, readOf, Script, next, stop, end, onward, scriptOf, listed, line, lines, lastLine, outputOf, output, Printed}
 use Rattle.script.specs.Answers.{readAs}
 use Rattle.script.specs.Sheet.{Sheet, sheet, write, Wrote, carried, printed}
@@ -23,7 +22,7 @@ use Rattle.script.specs.declared.program.Progress.{Progress}
 
 -- What the commands cs leave to write, count of them done, where s comes next.
 unfoldable pub ahead : List Command → (count : ℕ) → Script → List ℕ
-ahead cs count s = lines (run start cs) (count + 1) s ++ lastLine (kept limit limit start (cs ++ listed s))
+ahead cs count s = lines (run start cs) (count + 1) s ++ lastLine (isKept limit limit (cs ++ listed s))
 
 abbrev pub rest : List ℕ → (at : ℕ) → Progress → Script
 rest script at p = cond (p .more) (scriptOf (drop at script)) end
@@ -56,7 +55,7 @@ ahead-next : (cs : List Command) (n b : ℕ) (c : Command) (s : Script)
 unfolding ahead lines listed
 ahead-next cs n b c s =
     append-assoc (line (n + 1) b (answer (run start cs) c)) (lines (step (run start cs) c) (n + 1 + 1) s) _
-    ∙ (λ i. line (n + 1) b (answer (run start cs) c) ++ (lines (table i) (n + 1 + 1) s ++ lastLine (kept limit limit start (list i))))
+    ∙ (λ i. line (n + 1) b (answer (run start cs) c) ++ (lines (table i) (n + 1 + 1) s ++ lastLine (isKept limit limit (list i))))
   where
     table : step (run start cs) c ≡ run start (cs ++ c ∷ [])
     table = sym (run-snoc start cs c)
@@ -68,9 +67,9 @@ ahead-stop : (cs : List Command) (n m b k : ℕ) → ahead cs n (stop b k) ≡ l
 unfolding ahead lines listed
 ahead-stop cs n m b k = refl
 
-ahead-end : (cs : List Command) (n : ℕ) → ahead cs n end ≡ lastLine (kept limit limit start cs)
+ahead-end : (cs : List Command) (n : ℕ) → ahead cs n end ≡ lastLine (isKept limit limit cs)
 unfolding ahead lines listed
-ahead-end cs n = ap (λ (l : List Command). lastLine (kept limit limit start l)) (append-nil cs)
+ahead-end cs n = ap (λ (l : List Command). lastLine (isKept limit limit l)) (append-nil cs)
 
 rest-none : (script : List ℕ) (at : ℕ) (p : Progress) → p .more ≡ false → rest script at p ≡ end
 rest-none script at p e = ap (λ (b : Bool). cond b (scriptOf (drop at script)) end) e
@@ -206,12 +205,12 @@ through-printed script old t out new p r late through is wrote = record { bytes 
     twice true = refl
     twice false = refl
 
-    isKept : not late ≡ kept limit limit start (g .commands)
-    isKept = ap not (is ∙ follows (g .made) .late) ∙ twice (kept limit limit start (g .commands))
+    said : not late ≡ isKept limit limit (g .commands)
+    said = ap not (is ∙ follows (g .made) .late) ∙ twice (isKept limit limit (g .commands))
 
     text : lastLine (not late) ≡ ahead (g .commands) (p .done) (rest script (through .at) p)
     text =
-        ap lastLine isKept ∙ sym (ahead-end (g .commands) (p .done))
+        ap lastLine said ∙ sym (ahead-end (g .commands) (p .done))
         ∙ ap (ahead (g .commands) (p .done)) (sym (rest-none script (through .at) p (through .last)))
 
     whole : sheet new r ≡ sheet (take (length old) (output script) ++ drop (length (output script)) old) (min (length old) (length (output script)))

@@ -11,7 +11,7 @@ ghost use mathlib.Core.Bool.{false};
 ghost use Prim.Native.Nat.{_+_, _<_, _^_};
 ghost use Rattle.node.specs.Rules.{refused};
 ghost use Rattle.table.specs.Words.{Fresh};
-ghost use Rattle.table.specs.Done.{Does};
+ghost use Rattle.table.specs.Promise.{Does};
 ghost use Rattle.script.specs.Rules.{line, output, used, Printed, PrintedWhole};
 ghost use Rattle.script.specs.Answers.{commandAs, readAs};
 ghost use Rattle.script.specs.Sheet.{sheet, Wrote};

@@ -44,6 +44,8 @@ use Rattle.table.specs.Rules.{
   ageStep,
   aged,
   kept,
+  noAges,
+  isKept,
 }
 use Rattle.table.specs.Words.{Cell, cell, frameOf, nodeAt, inbox, placeOf, agesOf, cellAt, lateOf, view, viewAges, Fresh}
 use Rattle.table.specs.WordLaws.{view-at, ages-at}
@@ -63,7 +65,7 @@ use Rattle.table.specs.AgeLaws.{
   old-around,
   Falls,
 }
-use Rattle.table.specs.Single.{both, noAges, single, one-meaning}
+use Rattle.table.specs.Single.{both, single, one-meaning}
 use Rattle.table.specs.Promise.{bound, Sound, Done, Does}
 
 -- A LIST, carried out by the code: the commands cs, one after another on one table from all nodes Off, answered as and left
@@ -72,10 +74,6 @@ pub data Carried : List Command → List A.Answer → List ℕ → Type 0 where
   begun : {t : List ℕ} → Fresh t → Carried [] [] t
   then : {cs : List Command} {xs : List A.Answer} {t : List ℕ} {c : Command} {a : A.Answer} {t′ : List ℕ}
       → Carried cs xs t → Does c t a t′ → Carried (cs ++ c ∷ []) (xs ++ a ∷ []) t′
-
--- A list is kept, under limits for inbox frames and for what waits, where no age in it exceeds its limit.
-abbrev pub isKept : (i o : ℕ) → List Command → Bool
-isKept i o cs = kept ticks i o start noAges cs
 
 -- THE CLAIM. What the rules give is `run start cs`, from the list's commands alone.
 pub record Claim (cs : List Command) (xs : List A.Answer) (t : List ℕ) : Type 0 where
@@ -96,7 +94,7 @@ pub record Claim (cs : List Command) (xs : List A.Answer) (t : List ℕ) : Type 
 
 -- LISTS WITH ONE MORE COMMAND
 
-run-snoc : (S : Segment) (cs : List Command) (c : Command) → run S (cs ++ (c ∷ [])) ≡ step (run S cs) c
+pub run-snoc : (S : Segment) (cs : List Command) (c : Command) → run S (cs ++ (c ∷ [])) ≡ step (run S cs) c
 unfolding run
 run-snoc S [] c = refl
 run-snoc S (d ∷ cs) c = run-snoc (step S d) cs c
