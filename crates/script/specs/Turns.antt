@@ -12,7 +12,7 @@ use Rattle.node.specs.declared.answer.Answer as A
 use Rattle.table.specs.Rules.{limit, start, Command, answer, step, run, isKept}
 use Rattle.table.specs.Words.{lateOf, Fresh}
 use Rattle.table.specs.Promise.{Does}
-use Rattle.table.specs.Claim.{Carried, begun, then, run-snoc, follows, told}
+use Rattle.claim.specs.Claim.{Carried, begun, then, run-snoc, follows, told}
 use Rattle.script.specs.Rules.{Found, command, refusal, nothing, readOf, Script, next, stop, end, onward, scriptOf, listed, line, lines, lastLine, outputOf, output, Printed}
 use Rattle.script.specs.Answers.{readAs}
 use Rattle.script.specs.Sheet.{Sheet, sheet, write, Wrote, carried, printed}

@@ -50,14 +50,11 @@ use Rattle.table.specs.Rules.{
   oldAt,
   old,
 }
-use Rattle.table.specs.Seen.{AgesTo, OutTo}
+use Rattle.table.specs.Promise.{around, allAround, AgesTo, OutTo, InLimit, Under, OldestFirst}
 use Rattle.table.specs.Words.{round, Item, item, Cell, cell, frameOf, ageIn, placeOf, agesOf}
 use Rattle.table.specs.Parts.{cellBy, later, laterItem, firstAge, headAge}
 
 -- MODULO THE ROUND
-
-abbrev pub around : Ages → Ages
-around g = ages (map (λ x. x % round) (g .inbox)) (λ a. g .waiting a % round)
 
 twice : (x : ℕ) → x % round % round ≡ x % round
 twice x = omega arith
@@ -114,9 +111,6 @@ around-passes d n g = ages-eq (go (g .inbox)) (λ a. timed (timedFor n a) (g .wa
     timed Reply x = shifted x d
     timed Amr x = shifted x d
 
-abbrev pub allAround : (ℕ → Ages) → ℕ → Ages
-allAround G k = around (G k)
-
 -- ages modulo the round are enough to carry on with
 pub around-step : (S : Segment) (G : ℕ → Ages) (c : Command) → allAround (ageStep ticks S (allAround G) c) ≡ allAround (ageStep ticks S G c)
 around-step S G c = λ j k. at k j
@@ -143,15 +137,24 @@ around-step S G c = λ j k. at k j
         go (accepted v) = in-range (ltb k places)
         go (refused number) = same (G k)
 
+-- TIME THAT DOES NOT PASS
+
+pub passes-0 : (n : Node) (g : Ages) → passes 0 n g ≡ g
+passes-0 n g = λ j. ages (inbox (g .inbox) j) (λ a. waiting (timedFor n a) (g .waiting a) j)
+  where
+    inbox : (gs : List ℕ) → map (λ x. x + 0) gs ≡ gs
+    inbox [] = refl
+    inbox (x ∷ gs) = let e : x + 0 ≡ x = omega arith in λ j. e j ∷ inbox gs j
+
+    waiting : (t : Timed) (x : ℕ) → passAge 0 t x ≡ x
+    waiting Untimed x = refl
+    waiting Reply x = omega arith
+    waiting Amr x = omega arith
+
 -- HOW FAR AGES CAN HAVE GROWN
 
 both-false : (a b : Bool) → a ≡ false → b ≡ false → (a || b) ≡ false
 both-false a b p q = λ j. p j || q j
-
--- No age at a node exceeds i for inbox frames, o for what waits.
-pub record InLimit (i o : ℕ) (n : Node) (g : Ages) : Type 0 where
-  pub inbox : AgesTo i (g .inbox)
-  pub waiting : (a : ℕ) → OutTo o (timedFor n a) (g .waiting a)
 
 to-rest : (i : ℕ) (gs : List ℕ) → AgesTo i gs → AgesTo i (rest gs)
 to-rest i [] h = tt
@@ -212,26 +215,26 @@ module _ (i o : ℕ) where
 
   -- AS THE RULES' TESTS SAY IT
 
-  any-young : (gs : List ℕ) → AgesTo i gs → anyOld i o gs ≡ false
-  any-young [] h = refl
-  any-young (g ∷ gs) h = both-false _ _ (le-ltb i g (h .0)) (any-young gs (h .1))
+  any-test : (gs : List ℕ) → AgesTo i gs → anyOld i o gs ≡ false
+  any-test [] h = refl
+  any-test (g ∷ gs) h = both-false _ _ (le-ltb i g (h .0)) (any-test gs (h .1))
 
-  young-any : (gs : List ℕ) → anyOld i o gs ≡ false → AgesTo i gs
-  young-any [] e = tt
-  young-any (g ∷ gs) e = let c = neither (ltb i g) (anyOld i o gs) e in (ltb-false i g (c .0), young-any gs (c .1))
+  test-any : (gs : List ℕ) → anyOld i o gs ≡ false → AgesTo i gs
+  test-any [] e = tt
+  test-any (g ∷ gs) e = let c = neither (ltb i g) (anyOld i o gs) e in (ltb-false i g (c .0), test-any gs (c .1))
 
-  timed-young : (t : Timed) (x : ℕ) → OutTo o t x → timedOld i o t x ≡ false
-  timed-young Untimed x h = refl
-  timed-young Reply x h = le-ltb o x h
-  timed-young Amr x h = le-ltb o x h
+  timed-test : (t : Timed) (x : ℕ) → OutTo o t x → timedOld i o t x ≡ false
+  timed-test Untimed x h = refl
+  timed-test Reply x h = le-ltb o x h
+  timed-test Amr x h = le-ltb o x h
 
-  young-timed : (t : Timed) (x : ℕ) → timedOld i o t x ≡ false → OutTo o t x
-  young-timed Untimed x e = tt
-  young-timed Reply x e = ltb-false o x e
-  young-timed Amr x e = ltb-false o x e
+  test-timed : (t : Timed) (x : ℕ) → timedOld i o t x ≡ false → OutTo o t x
+  test-timed Untimed x e = tt
+  test-timed Reply x e = ltb-false o x e
+  test-timed Amr x e = ltb-false o x e
 
-  held-young : (n : Node) (w : ℕ → ℕ) → ((a : ℕ) → OutTo o (timedFor n a) (w a)) → heldOld i o (heldOf n) w ≡ false
-  held-young n w h = go (uses (n .phase)) (h al)
+  held-test : (n : Node) (w : ℕ → ℕ) → ((a : ℕ) → OutTo o (timedFor n a) (w a)) → heldOld i o (heldOf n) w ≡ false
+  held-test n w h = go (uses (n .phase)) (h al)
     where
       al : ℕ
       al = n .alias .0
@@ -240,31 +243,31 @@ module _ (i o : ℕ) where
       t = timedAt (n .phase) (n .waiting .reply)
 
       own : (c : Bool) → c ≡ true → OutTo o (cond c t Untimed) (w al) → timedOld i o t (w al) ≡ false
-      own true e k = timed-young t (w al) k
+      own true e k = timed-test t (w al) k
       own false e k = absurd (false≢true e)
 
       go : (u : Bool) → OutTo o (timedIn (cond u (held al t ∷ []) []) al) (w al) → heldOld i o (cond u (held al t ∷ []) []) w ≡ false
       go true k = both-false _ _ (own (eqb al al) (eq-eqb al al refl) k) refl
       go false k = refl
 
-  young-held : (a : ℕ) (hs : List Held) (w : ℕ → ℕ) → heldOld i o hs w ≡ false → OutTo o (timedIn hs a) (w a)
-  young-held a [] w e = tt
-  young-held a (h ∷ hs) w e =
+  test-held : (a : ℕ) (hs : List Held) (w : ℕ → ℕ) → heldOld i o hs w ≡ false → OutTo o (timedIn hs a) (w a)
+  test-held a [] w e = tt
+  test-held a (h ∷ hs) w e =
       let c = neither (timedOld i o (h .timed) (w (h .alias))) (heldOld i o hs w) e in
-      go (eqb (h .alias) a) refl (c .0) (young-held a hs w (c .1))
+      go (eqb (h .alias) a) refl (c .0) (test-held a hs w (c .1))
     where
       go : (b : Bool) → eqb (h .alias) a ≡ b → timedOld i o (h .timed) (w (h .alias)) ≡ false → OutTo o (timedIn hs a) (w a)
           → OutTo o (cond b (h .timed) (timedIn hs a)) (w a)
-      go true q z k = young-timed (h .timed) (w a) (ap (λ (x : ℕ). timedOld i o (h .timed) (w x)) (sym (eqb-true (h .alias) a q)) ∙ z)
+      go true q z k = test-timed (h .timed) (w a) (ap (λ (x : ℕ). timedOld i o (h .timed) (w x)) (sym (eqb-true (h .alias) a q)) ∙ z)
       go false q z k = k
 
-  pub limit-young : (n : Node) (g : Ages) → InLimit i o n g → oldAt i o n g ≡ false
-  limit-young n g h = both-false _ _ (any-young (g .inbox) (h .inbox)) (held-young n (g .waiting) (h .waiting))
+  pub limit-test : (n : Node) (g : Ages) → InLimit i o n g → oldAt i o n g ≡ false
+  limit-test n g h = both-false _ _ (any-test (g .inbox) (h .inbox)) (held-test n (g .waiting) (h .waiting))
 
-  pub young-limit : (n : Node) (g : Ages) → oldAt i o n g ≡ false → InLimit i o n g
-  young-limit n g e =
+  pub test-limit : (n : Node) (g : Ages) → oldAt i o n g ≡ false → InLimit i o n g
+  test-limit n g e =
       let c = neither (anyOld i o (g .inbox)) (heldOld i o (heldOf n) (g .waiting)) e in
-      record { inbox = young-any (g .inbox) (c .0); waiting = λ a. young-held a (heldOf n) (g .waiting) (c .1) }
+      record { inbox = test-any (g .inbox) (c .0); waiting = λ a. test-held a (heldOf n) (g .waiting) (c .1) }
 
 -- an age modulo the round is no greater
 pub limit-around : (i o : ℕ) (n : Node) (g : Ages) → InLimit i o n g → InLimit i o n (around g)
@@ -377,32 +380,24 @@ ages-by (gets f) x = ap (λ (gs : List ℕ). ages gs (x .age)) (map-append ageIn
 
 -- NO FRAME IS OLDER THAN THE ONE BEFORE IT
 
-abbrev pub Under : ℕ → List Item → Type 0
-Under g [] = Unit {0}
-Under g (x ∷ xs) = (x .age ≤ g) × Under g xs
-
-abbrev pub Falls : List Item → Type 0
-Falls [] = Unit {0}
-Falls (x ∷ xs) = Under (x .age) xs × Falls xs
-
 under-push : (g : ℕ) (xs : List Item) (f : Frame) → Under g xs → Under g (xs ++ (item f 0 ∷ []))
 under-push g [] f u = (omega arith, tt)
 under-push g (x ∷ xs) f u = (u .0, under-push g xs f (u .1))
 
-falls-push : (xs : List Item) (f : Frame) → Falls xs → Falls (xs ++ (item f 0 ∷ []))
-falls-push [] f h = (tt, tt)
-falls-push (x ∷ xs) f h = (under-push (x .age) xs f (h .0), falls-push xs f (h .1))
+ordered-push : (xs : List Item) (f : Frame) → OldestFirst xs → OldestFirst (xs ++ (item f 0 ∷ []))
+ordered-push [] f h = (tt, tt)
+ordered-push (x ∷ xs) f h = (under-push (x .age) xs f (h .0), ordered-push xs f (h .1))
 
-falls-rest : (xs : List Item) → Falls xs → Falls (rest xs)
-falls-rest [] h = tt
-falls-rest (x ∷ xs) h = h .1
+ordered-rest : (xs : List Item) → OldestFirst xs → OldestFirst (rest xs)
+ordered-rest [] h = tt
+ordered-rest (x ∷ xs) h = h .1
 
-pub falls-by : (e : Effect) (x : Cell) → Falls (x .inbox) → Falls (cellBy e x .inbox)
-falls-by stays x h = h
-falls-by (becomes m) x h = h
-falls-by (begins m) x h = tt
-falls-by (reads m) x h = falls-rest (x .inbox) h
-falls-by (gets f) x h = falls-push (x .inbox) f h
+pub ordered-by : (e : Effect) (x : Cell) → OldestFirst (x .inbox) → OldestFirst (cellBy e x .inbox)
+ordered-by stays x h = h
+ordered-by (becomes m) x h = h
+ordered-by (begins m) x h = tt
+ordered-by (reads m) x h = ordered-rest (x .inbox) h
+ordered-by (gets f) x h = ordered-push (x .inbox) f h
 
 -- a tick later
 module _ (b : ℕ) (lo : b + 1 < round) where
@@ -410,9 +405,9 @@ module _ (b : ℕ) (lo : b + 1 < round) where
   under-later g [] l u = tt
   under-later g (x ∷ xs) l u = (omega (arith, u .0), under-later g xs l (u .1))
 
-  pub falls-later : (xs : List Item) → AgesTo b (map ageIn xs) → Falls xs → Falls (map laterItem xs)
-  falls-later [] u h = tt
-  falls-later (x ∷ xs) u h = (under-later (x .age) xs (u .0) (h .0), falls-later xs (u .1) (h .1))
+  pub ordered-later : (xs : List Item) → AgesTo b (map ageIn xs) → OldestFirst xs → OldestFirst (map laterItem xs)
+  ordered-later [] u h = tt
+  ordered-later (x ∷ xs) u h = (under-later (x .age) xs (u .0) (h .0), ordered-later xs (u .1) (h .1))
 
 -- so the first frame has the greatest age
 module _ (b : ℕ) where
@@ -420,11 +415,11 @@ module _ (b : ℕ) where
   under-up g [] u l = tt
   under-up g (x ∷ xs) u l = (omega (arith, u .0), under-up g xs (u .1) l)
 
-  first-up : (xs : List Item) → Falls xs → firstAge xs ≤ b → AgesTo b (map ageIn xs)
+  first-up : (xs : List Item) → OldestFirst xs → firstAge xs ≤ b → AgesTo b (map ageIn xs)
   first-up [] f l = tt
   first-up (x ∷ xs) f l = (l, under-up (x .age) xs (f .0) l)
 
-  pub head-limit : (x : Cell) → Falls (x .inbox) → headAge x ≤ b → InLimit b b (x .node) (agesOf x)
+  pub head-limit : (x : Cell) → OldestFirst (x .inbox) → headAge x ≤ b → InLimit b b (x .node) (agesOf x)
   head-limit x f l = record { inbox = first-up (x .inbox) f (omega arith); waiting = λ a. go a (eqb (x .node .alias .0) a) refl }
     where
       go : (a : ℕ) (c : Bool) → eqb (x .node .alias .0) a ≡ c → OutTo b (timedFor (x .node) a) (x .age a)

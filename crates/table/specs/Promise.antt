@@ -1,14 +1,47 @@
 -- What every command promises of the words that it is lent.
 use mathlib.Core.Path.{_≡_}
 use mathlib.Core.Bool.{Bool, false, _||_}
-use mathlib.Core.List.{List}
-use Prim.Native.Nat.{ℕ, _-_, _<_}
-use Rattle.node.specs.Rules.{refused}
+use mathlib.Core.List.{List, [], _∷_, map}
+use Prim.Native.Nat.{ℕ, _-_, _%_, _<_, _≤_}
+use Rattle.node.specs.Rules.{refused, timedFor}
 use Rattle.node.specs.Answers.{answerAs}
 use Rattle.node.specs.declared.answer.Answer as A
-use Rattle.table.specs.Rules.{places, limit, Segment, Command, answer, step, Ages, ageStep, ticks, old}
-use Rattle.table.specs.Words.{nodeAt, inbox, agesOf, cellAt, lateOf, slackOf, view, viewAges, Held}
-use Rattle.table.specs.AgeLaws.{allAround, InLimit, Falls}
+use Rattle.node.specs.declared.state.Node.{Node}
+use Rattle.node.specs.declared.timed.Timed.{Timed}
+use Rattle.node.specs.declared.timed.Timed.the-variants.{Untimed, Reply, Amr}
+use Rattle.table.specs.Rules.{places, limit, Segment, Command, answer, step, Ages, ages, ageStep, ticks, old}
+use Rattle.table.specs.Words.{round, Item, nodeAt, inbox, agesOf, cellAt, lateOf, slackOf, view, viewAges, Held}
+
+-- Ages modulo the round of the clock.
+abbrev pub around : Ages → Ages
+around g = ages (map (λ x. x % round) (g .inbox)) (λ a. g .waiting a % round)
+
+abbrev pub allAround : (ℕ → Ages) → ℕ → Ages
+allAround G k = around (G k)
+
+-- no age above a limit, in an inbox and of what waits
+abbrev pub AgesTo : ℕ → List ℕ → Type 0
+AgesTo i [] = Unit {0}
+AgesTo i (g ∷ gs) = (g ≤ i) × AgesTo i gs
+
+abbrev pub OutTo : ℕ → Timed → ℕ → Type 0
+OutTo o Untimed r = Unit {0}
+OutTo o Reply r = r ≤ o
+OutTo o Amr r = r ≤ o
+
+-- No age at a node exceeds i for inbox frames, o for what waits.
+pub record InLimit (i o : ℕ) (n : Node) (g : Ages) : Type 0 where
+  pub inbox : AgesTo i (g .inbox)
+  pub waiting : (a : ℕ) → OutTo o (timedFor n a) (g .waiting a)
+
+-- No frame in an inbox is older than the one before it.
+abbrev pub Under : ℕ → List Item → Type 0
+Under g [] = Unit {0}
+Under g (x ∷ xs) = (x .age ≤ g) × Under g xs
+
+abbrev pub OldestFirst : List Item → Type 0
+OldestFirst [] = Unit {0}
+OldestFirst (x ∷ xs) = Under (x .age) xs × OldestFirst xs
 
 -- Until an age has exceeded the limit, none exceeds this.
 abbrev pub bound : List ℕ → ℕ
@@ -16,10 +49,10 @@ bound t = limit - slackOf t
 
 -- What holds of the words all Off, and of those that any command left: counts in range; and until an age has exceeded the
 -- limit, none exceeds the bound, and no frame in an inbox is older than the one before it.
-pub record Sound (t : List ℕ) : Type 0 where
+pub record SoundWords (t : List ℕ) : Type 0 where
   pub held : Held t
-  pub young : lateOf t ≡ false → (k : ℕ) → k < places → InLimit (bound t) (bound t) (nodeAt t k) (agesOf (cellAt t k))
-  pub falling : lateOf t ≡ false → (k : ℕ) → k < places → Falls (inbox t k)
+  pub limits : lateOf t ≡ false → (k : ℕ) → k < places → InLimit (bound t) (bound t) (nodeAt t k) (agesOf (cellAt t k))
+  pub ordered : lateOf t ≡ false → (k : ℕ) → k < places → OldestFirst (inbox t k)
 
 -- The command c on the words t answered a and left t′. Ages are kept modulo the clock's round; late is said when an age
 -- exceeds the limit, and then for good; a refusal leaves every word as it was.
@@ -28,9 +61,9 @@ pub record Done (c : Command) (t : List ℕ) (a : A.Answer) (t′ : List ℕ) : 
   pub table : view t′ ≡ step (view t) c
   pub ages : viewAges t′ ≡ allAround (ageStep ticks (view t) (viewAges t) c)
   pub late : lateOf t′ ≡ (lateOf t || old limit limit places (view t′) (viewAges t′))
-  pub sound : Sound t′
+  pub sound : SoundWords t′
   pub unmoved : (number : ℕ) → answerAs a ≡ refused number → t′ ≡ t
 
 -- What each command ensures: on words that are not sound only a safe end is owed.
 abbrev pub Does : Command → List ℕ → A.Answer → List ℕ → Type 0
-Does c t a t′ = Sound t → Done c t a t′
+Does c t a t′ = SoundWords t → Done c t a t′

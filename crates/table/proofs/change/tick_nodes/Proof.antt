@@ -1,7 +1,7 @@
 use Prim.Native.Nat.{ℕ, _≤_, _-_}
 use native.Mathlib.Omega.{arith}
 use mathlib.Core.Path.{_≡_, refl, subst}
-use Rattle.table.specs.Parts.{Each, ticked}
+use Rattle.table.specs.Parts.{Each, tickedCell}
 use Rattle.table.specs.Rules.{places}
 use Rattle.table.specs.Words.{Held}
 use Rattle.table.proofs.Rounds.{each-none, each-more}
@@ -9,7 +9,7 @@ use Rattle.table.proofs.change.tick_nodes.Statement.{statement}
 use Rattle.table.proofs.change.tick_nodes.Tie as tie
 
 abbrev Inv-loop : tie.InvT-loop
-Inv-loop t₀ k₀ t k = (k ≤ places) × (Held t₀ → Each (λ j x. ticked x) t₀ k t)
+Inv-loop t₀ k₀ t k = (k ≤ places) × (Held t₀ → Each (λ j x. tickedCell x) t₀ k t)
 
 abbrev μ-loop : tie.MeasureT-loop
 μ-loop t₀ k₀ t k = places - k
@@ -32,7 +32,7 @@ loop-again c = (omega arith, λ h. let E = c .before .before .before .loop .inv 
 returns : tie.Need-returns Inv-loop μ-loop
 returns c = λ h.
     let e : c .before .loop .k ≡ places = omega arith in
-    subst (λ (k : ℕ). Each (λ j x. ticked x) (c .before .before .args .t .now) k (c .before .loop .t)) e (c .before .loop .inv .1 h)
+    subst (λ (k : ℕ). Each (λ j x. tickedCell x) (c .before .before .args .t .now) k (c .before .loop .t)) e (c .before .loop .inv .1 h)
 
 pub tick-nodes-spec : {M : Type 1} → statement M
 tick-nodes-spec =

@@ -54,8 +54,9 @@ use Rattle.node.specs.declared.frame.Frame.{Frame}
 use Rattle.node.specs.declared.state.Node.{Node}
 use Rattle.node.specs.declared.timed.Timed.{Timed}
 use Rattle.node.specs.declared.timed.Timed.the-variants.{Untimed, Reply, Amr}
-use Rattle.table.specs.Bus.{Talk, Local, Emits, Gets, Passes, Kept}
+use Rattle.claim.specs.Bus.{Talk, Local, Emits, Gets, Passes, Kept}
+use Rattle.table.specs.Promise.{AgesTo, OutTo}
 use Rattle.table.specs.Rules.{Ages, agesOn, passAge, anyOld, timedOld, heldOld, oldAt}
 
 pub record Seen : Type 0 where
   pub stand : Stand
@@ -76,16 +77,6 @@ abbrev pub Heard : (Frame → Type 0) → List Frame → List ℕ → ℕ → Ty
 Heard Q [] gs g = ⊥
 Heard Q (f ∷ fs) [] g = ⊥
 Heard Q (f ∷ fs) (h ∷ hs) g = (Q f × (h ≡ g)) ⊎ Heard Q fs hs g
-
--- no age above a limit, in an inbox and of what waits
-abbrev pub AgesTo : ℕ → List ℕ → Type 0
-AgesTo i [] = Unit {0}
-AgesTo i (g ∷ gs) = (g ≤ i) × AgesTo i gs
-
-abbrev pub OutTo : ℕ → Timed → ℕ → Type 0
-OutTo o Untimed r = Unit {0}
-OutTo o Reply r = r ≤ o
-OutTo o Amr r = r ≤ o
 
 module _ (Q : Frame → Type 0) where
   heard-kept : (i : ℕ) (xs : List Frame) (gs : List ℕ) (g : ℕ) → AgesTo i gs → Heard Q xs gs g → g ≤ i
@@ -205,9 +196,9 @@ module _ (i o a : ℕ) where
 
   -- A FRAME COMES
 
-  pub pushed : (s : Stand) (r : ℕ) (xs : List Frame) (gs : List ℕ) (f : Frame) → length xs ≡ length gs
+  pub got : (s : Stand) (r : ℕ) (xs : List Frame) (gs : List ℕ) (f : Frame) → length xs ≡ length gs
       → Gets Seen Frame talk f (seen s r xs gs) (seen s r (xs ++ (f ∷ [])) (gs ++ (0 ∷ [])))
-  pushed s r xs gs f e = record {
+  got s r xs gs f e = record {
     uses = λ u. u;
     knows = λ w k. known s w k;
     tests = λ w h. h;

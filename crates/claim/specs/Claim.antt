@@ -47,26 +47,22 @@ use Rattle.table.specs.Rules.{
   noAges,
   isKept,
 }
 use Rattle.table.specs.Words.{Cell, cell, frameOf, nodeAt, inbox, placeOf, agesOf, cellAt, lateOf, view, viewAges, Fresh}
 use Rattle.table.specs.WordLaws.{view-at, ages-at}
 use Rattle.table.specs.AgeLaws.{
-  around,
-  allAround,
   around-step,
-  InLimit,
   out-any,
   limit-by,
   limit-passes,
   limit-more,
-  limit-young,
-  young-limit,
+  limit-test,
+  test-limit,
   old-at,
   old-none,
   old-around,
-  Falls,
 }
-use Rattle.table.specs.Single.{both, single, one-meaning}
-use Rattle.table.specs.Promise.{bound, Sound, Done, Does}
+use Rattle.claim.specs.Single.{both, single, one-meaning}
+use Rattle.table.specs.Promise.{around, allAround, InLimit, OldestFirst, bound, SoundWords, Done, Does}
 
 -- A LIST, carried out by the code: the commands cs, one after another on one table from all nodes Off, answered as and left
 -- the words t. `Fresh` is what `new` ensures, `Does` what each command ensures.
@@ -122,11 +118,11 @@ module _ (i o : ℕ) where
       ∙ sym (and-assoc (not (old i o places S G)) (kept ticks i o (step S d) (ageStep ticks S G d) cs) _)
 
   -- a kept list leaves no age that exceeds its limit
-  kept-young : (S : Segment) (G : ℕ → Ages) (cs : List Command) → kept ticks i o S G cs ≡ true → old i o places (run S cs) (aged ticks S G cs) ≡ false
+  kept-limit : (S : Segment) (G : ℕ → Ages) (cs : List Command) → kept ticks i o S G cs ≡ true → old i o places (run S cs) (aged ticks S G cs) ≡ false
   unfolding run aged kept
-  kept-young S G [] e = not-true (old i o places S G) e
-  kept-young S G (d ∷ cs) e =
-      kept-young (step S d) (ageStep ticks S G d) cs (both (not (old i o places S G)) (kept ticks i o (step S d) (ageStep ticks S G d) cs) e .1)
+  kept-limit S G [] e = not-true (old i o places S G) e
+  kept-limit S G (d ∷ cs) e =
+      kept-limit (step S d) (ageStep ticks S G d) cs (both (not (old i o places S G)) (kept ticks i o (step S d) (ageStep ticks S G d) cs) e .1)
 
 -- a command lets at most one tick pass
 one-tick : (c : Command) → ticks c ≤ 1
@@ -163,7 +159,7 @@ pub record Followed (cs : List Command) (xs : List A.Answer) (t : List ℕ) : Ty
   pub table : view t ≡ run start cs
   pub ages : viewAges t ≡ allAround (aged ticks start noAges cs)
   pub late : lateOf t ≡ not (isKept limit limit cs)
-  pub sound : Sound t
+  pub sound : SoundWords t
 
 -- a command's answer is what the rules give
 pub told : {cs : List Command} {xs : List A.Answer} {t : List ℕ} {c : Command} {a : A.Answer} {t′ : List ℕ} → Followed cs xs t → Does c t a t′
@@ -196,7 +192,7 @@ module _ (cs : List Command) (xs : List A.Answer) (t : List ℕ) (c : Command) (
       exact e =
           (λ j. old limit limit places (table-on j) (ages-on j))
           ∙ old-around (limit + 1) (omega arith) limit limit places (step S c) (ageStep ticks S G c)
-          (λ k h. limit-step S G c k h (young-limit limit limit (S .at k .node) (G k) (old-at limit limit places S G k (kept-young limit limit start noAges cs e) h)))
+          (λ k h. limit-step S G c k h (test-limit limit limit (S .at k .node) (G k) (old-at limit limit places S G k (kept-limit limit limit start noAges cs e) h)))
 
       twice : (b : Bool) → b ≡ not (not b)
       twice true = refl
@@ -234,11 +230,11 @@ module _ {t : List ℕ} (f : Fresh t) where
       at k true e = ap agesOf (f .cells k (ltb-true k places e))
       at k false e = refl
 
-  pub fresh-sound : Sound t
+  pub fresh-sound : SoundWords t
   fresh-sound = record {
     held = f .held;
-    young = λ e k h. subst (λ (x : Cell). InLimit (bound t) (bound t) (x .node) (agesOf x)) (sym (f .cells k h)) nothing-old;
-    falling = λ e k h. subst (λ (x : Cell). Falls (x .inbox)) (sym (f .cells k h)) tt;
+    limits = λ e k h. subst (λ (x : Cell). InLimit (bound t) (bound t) (x .node) (agesOf x)) (sym (f .cells k h)) nothing-old;
+    ordered = λ e k h. subst (λ (x : Cell). OldestFirst (x .inbox)) (sym (f .cells k h)) tt;
   }
     where
       nothing-old : InLimit (bound t) (bound t) offNode none
@@ -250,7 +246,7 @@ follows (begun f) = record {
   answered = refl;
   table = fresh-table f;
   ages = fresh-ages f;
-  late = f .late ∙ sym (ap (λ (b : Bool). not (not b)) (old-none limit limit places start noAges (λ k h. limit-young limit limit offNode none no-age)));
+  late = f .late ∙ sym (ap (λ (b : Bool). not (not b)) (old-none limit limit places start noAges (λ k h. limit-test limit limit offNode none no-age)));
   sound = fresh-sound f;
 }
   where

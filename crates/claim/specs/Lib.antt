@@ -1,0 +1,4 @@
+pub mod Claim
+pub mod Single
+pub mod Seen
+pub mod Bus
