@@ -22,11 +22,11 @@ impl Entry {
     {
         let own = self.alias;
         match key {
-            Key::Alias(a) => own.0 == a.0,
+            Key::Alias(a) => own.same(a),
             Key::Id(i) => self.id == i,
             Key::Either(e) => {
                 let a = e.alias;
-                if own.0 == a.0 {
+                if own.same(a) {
                     return true;
                 }
                 self.id == e.id
