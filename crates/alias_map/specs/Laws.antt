@@ -7,8 +7,8 @@ use native.Mathlib.Omega.{arith}
 use lib.Dec.{leb}
 use lib.ListN.{length}
 use borrow.Author.Tests.{eq-eqb, ne-eqb, eqb-true}
-use Rattle.node.specs.Rules.{malformed}
-use Rattle.node.specs.declared.frame.Frame.{Frame}
+use Rattle.headers.specs.Frames.{malformed}
+use Rattle.headers.specs.declared.frame.Frame.{Frame}
 use Rattle.alias_map.specs.Rules.{Answer, accepted, refused, refuse, aliasIn, kindIn, amd, amr, idIn, room, hasAlias, hasId, hasEither, without, add, define, noteKind, entryIn, note, first, asked, idOf, aliasOf}
 use Rattle.alias_map.specs.declared.entry.Entry.{Entry}
 

@@ -1,7 +1,7 @@
 -- Frames noted one after another from an empty map: every answer and the entries are what the rules give.
 use mathlib.Core.Path.{_≡_, refl, sym, ap, subst, _∙_}
 use mathlib.Core.List.{List, [], _∷_, _++_, map, append-nil, append-assoc}
-use Rattle.node.specs.declared.frame.Frame.{Frame}
+use Rattle.headers.specs.declared.frame.Frame.{Frame}
 use Rattle.alias_map.specs.Rules.{Answer, entryIn, note, after}
 use Rattle.alias_map.specs.Answers.{entriesOf, answerAs, AsWas}
 use Rattle.alias_map.specs.Sound.{Sound, empty-sound, Notes}

@@ -4,8 +4,8 @@ use mathlib.Core.Bool.{Bool, true, false, not, cond, _&&_}
 use mathlib.Core.List.{List, [], _∷_, _++_, append-nil}
 use lib.Dec.{leb, eqb}
 use lib.ListN.{length}
-use Rattle.node.specs.Rules.{malformed}
-use Rattle.node.specs.declared.frame.Frame.{Frame}
+use Rattle.headers.specs.Frames.{malformed}
+use Rattle.headers.specs.declared.frame.Frame.{Frame}
 use Rattle.alias_map.specs.Rules.{Answer, accepted, refuse, kindIn, Kind, cid, rid, amd, ame, amr, errorReport, reserved, message, room, hasAlias, hasEither, without, add, define, noteKind, entryIn, note, after}
 use Rattle.alias_map.specs.declared.entry.Entry.{Entry}
 

@@ -4,7 +4,7 @@ use mathlib.Core.Bool.{Bool, not, cond, _&&_, _||_}
 use mathlib.Core.List.{List, [], _∷_, _++_}
 use lib.Dec.{leb, eqb}
 use lib.ListN.{length}
-use Rattle.node.specs.Rules.{malformed}
+use Rattle.headers.specs.Frames.{malformed}
 pub use Rattle.headers.specs.Rules.{
   Answer,
   accepted,
@@ -23,7 +23,7 @@ pub use Rattle.headers.specs.Rules.{
   message,
   idIn,
 }
-use Rattle.node.specs.declared.frame.Frame.{Frame}
+use Rattle.headers.specs.declared.frame.Frame.{Frame}
 use Rattle.alias_map.specs.declared.entry.Entry.{Entry}
 
 -- 64 entries, alias with Node ID, oldest first.

@@ -7,8 +7,8 @@ use native.Mathlib.Omega.{arith}
 use lib.Dec.{leb, eqb}
 use lib.ListN.{length, length-append}
 use borrow.Author.Tests.{eq-eqb, eqb-false, leb-false}
-use Rattle.node.specs.Rules.{malformed}
-use Rattle.node.specs.declared.frame.Frame.{Frame}
+use Rattle.headers.specs.Frames.{malformed}
+use Rattle.headers.specs.declared.frame.Frame.{Frame}
 use Rattle.alias_map.specs.Rules.{Answer, accepted, refused, refuse, aliasIn, kindIn, Kind, cid, rid, amd, ame, amr, errorReport, reserved, message, room, hasAlias, hasId, hasEither, without, add, define, noteKind, entryIn, note}
 use Rattle.alias_map.specs.Answers.{entriesOf, answerAs, AsWas, Gives}
 use Rattle.alias_map.specs.Laws.{Implies, like-alias, like-id, without-length, count, count-append, count-without, count-removed}

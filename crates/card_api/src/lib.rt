@@ -1,6 +1,6 @@
 // The table's commands for C: the same operations over a plain pointer to its words, answers as numbers.
+use headers::frame::Frame;
 use node::answer::Answer;
-use node::frame::Frame;
 use table::layout::WORDS;
 ghost use mathlib.Core.Path.{_≡_};
 ghost use Rattle.table.specs.Rules.{powerOn, send, fail, deliver, tick, foreign, message, enquiry, release};

@@ -10,7 +10,7 @@ use borrow.Author.Tests.{not-true, lt-ltb, ltb-true}
 use Rattle.node.specs.Rules.{Answer, accepted, refused, Value, timedFor, wait, uses, offNode, next, dueOf}
 use Rattle.node.specs.Answers.{answerAs}
 use Rattle.node.specs.declared.answer.Answer as A
-use Rattle.node.specs.declared.frame.Frame.{Frame}
+use Rattle.headers.specs.declared.frame.Frame.{Frame}
 use Rattle.node.specs.declared.state.Node.{Node}
 use Rattle.table.specs.Rules.{
   places,

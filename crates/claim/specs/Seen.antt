@@ -50,7 +50,7 @@ use Rattle.node.specs.Stand.{
   grows-tests,
 }
 use Rattle.node.specs.Events.{timed-stand}
-use Rattle.node.specs.declared.frame.Frame.{Frame}
+use Rattle.headers.specs.declared.frame.Frame.{Frame}
 use Rattle.node.specs.declared.state.Node.{Node}
 use Rattle.node.specs.declared.timed.Timed.{Timed}
 use Rattle.node.specs.declared.timed.Timed.the-variants.{Untimed, Reply, Amr}

@@ -52,7 +52,7 @@ use Rattle.node.specs.Rules.{
   onOrder,
   outcome,
 }
-use Rattle.node.specs.declared.frame.Frame.{Frame}
+use Rattle.headers.specs.declared.frame.Frame.{Frame}
 use Rattle.node.specs.declared.state.Node.{Node}
 use Rattle.node.specs.declared.state.Host.{Host}
 use Rattle.node.specs.declared.state.Phase.the-variants.{Leaving}

@@ -7,7 +7,7 @@ use mathlib.Core.List.{List, [], _∷_, _++_}
 use lib.Dec.{ltb, leb, eqb}
 use lib.ListN.{length, getD, take, drop}
 use Rattle.node.specs.Rules.{Answer, accepted, refused, Value, done, left, idBytes, packed}
-use Rattle.node.specs.declared.frame.Frame.{Frame}
+use Rattle.headers.specs.declared.frame.Frame.{Frame}
 use Rattle.table.specs.Rules.{
   limit,
   Segment,

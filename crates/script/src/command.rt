@@ -1,5 +1,5 @@
 // The commands of a script, and how one is read from the bytes that it starts.
-use node::frame::Frame;
+use headers::frame::Frame;
 ghost use mathlib.Core.Path.{_≡_};
 ghost use Prim.Native.Nat.{_+_, _<_, _≤_, _^_};
 ghost use lib.ListN.{length, drop};

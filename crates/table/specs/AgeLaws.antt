@@ -12,7 +12,7 @@ use borrow.Author.Tests.{le-ltb, ltb-false, eq-eqb, eqb-true, eqb-false}
 use Rattle.node.specs.Rules.{Answer, accepted, refused, Value, uses, timedAt, Held, held, heldOf, timedIn, timedFor}
 use Rattle.node.specs.Laws.{neither}
 use Rattle.node.specs.Events.{timed-other}
-use Rattle.node.specs.declared.frame.Frame.{Frame}
+use Rattle.headers.specs.declared.frame.Frame.{Frame}
 use Rattle.node.specs.declared.state.Node.{Node}
 use Rattle.node.specs.declared.timed.Timed.{Timed}
 use Rattle.node.specs.declared.timed.Timed.the-variants.{Untimed, Reply, Amr}
