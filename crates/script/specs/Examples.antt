@@ -2,6 +2,7 @@
 use mathlib.Core.Path.{_≡_, refl}
 use mathlib.Core.List.{List, [], _∷_}
 use Prim.Native.Nat.{ℕ}
+use Rattle.text.specs.Rules.{digit, hex, decimalUpTo}
 use Rattle.headers.specs.Rules.{kindIn, mixed}
 use Rattle.node.specs.Rules.{
   offNode,
@@ -33,9 +34,6 @@ use Rattle.script.specs.Rules.{
   onward,
   readUpTo,
   listed,
-  digit,
-  hex,
-  decimalUpTo,
   dataText,
   answerText,
   line,

@@ -1,6 +1,5 @@
 pub mod Rules
 pub mod Answers
-pub mod Sheet
 pub mod Text
 pub mod Forms
 pub mod Scripts

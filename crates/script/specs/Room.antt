@@ -1,16 +1,16 @@
 -- How long an output can be: a script of 65,536 bytes has at most as many lines of 38 bytes, and a last one of 5.
-use mathlib.Core.Path.{_≡_, ap, sym, subst, subst⁻¹, _∙_}
-use Prim.Native.Nat.{ℕ, zero, suc, _+_, _*_, _%_, _^_, _≤_, _<_}
-use mathlib.Core.Bool.{Bool, true, false, not, cond, _&&_, _||_}
-use mathlib.Core.List.{List, _++_}
+use mathlib.Core.Path.{_≡_, subst, subst⁻¹}
+use Prim.Native.Nat.{ℕ, zero, suc, _+_, _*_, _≤_, _<_}
+use mathlib.Core.Bool.{Bool, not}
+use mathlib.Core.List.{List}
 use native.Mathlib.Omega.{arith}
-use lib.Dec.{ltb, leb, eqb}
+use lib.Dec.{leb}
 use lib.ListN.{length, drop, length-append, length-take, length-drop}
-use lib.Seq.{take-all, length-take-le}
+use Rattle.text.specs.Rules.{Printed, PrintedWhole}
+use Rattle.text.specs.Sheet.{whole}
 use Rattle.node.specs.Rules as N
 use Rattle.node.specs.Rules.{Answer, accepted, refused, refuse, Value, done, wait, isOff, malformed, onLeave}
 use Rattle.node.specs.Refusals.{TwoDigits, two-refuse, two-digits}
-use Rattle.node.specs.declared.state.Node.{Node}
 use Rattle.table.specs.Rules.{
   places,
   limit,
@@ -26,7 +26,6 @@ use Rattle.table.specs.Rules.{
   send,
   tick,
   foreign,
-  indexed,
   thenRoom,
   roomBut,
   isEmpty,
@@ -52,8 +51,6 @@ use Rattle.script.specs.Rules.{
   outputOf,
   output,
   used,
-  Printed,
-  PrintedWhole,
 }
 use Rattle.script.specs.Scripts.{Bounded, bounded}
 use Rattle.script.specs.Text.{line-short, last-short}
@@ -133,20 +130,9 @@ room s h =
     (omega (arith, lines-short start 1 (scriptOf s) (small (length s + 1) s) (omega arith), last-short (isKept limit limit (listed (scriptOf s)))))
 
 -- A buffer with that room holds the whole output.
-pub whole : (s u old new : List ℕ) (r : ℕ) → u ≡ used s → 65536 * 38 + 5 ≤ length old → Printed (output u) old new r
+pub whole-output : (s u old new : List ℕ) (r : ℕ) → u ≡ used s → 65536 * 38 + 5 ≤ length old → Printed (output u) old new r
     → PrintedWhole (output (used s)) old new r
-whole s u old new r e h p =
-    subst (λ (x : List ℕ). PrintedWhole (output x) old new r) e
-    (record { bytes = bytes; count = count; fits = fits; counted = sym (length-take-le r new fits) })
+whole-output s u old new r e h p = subst (λ (x : List ℕ). PrintedWhole (output x) old new r) e (whole (output u) old new r room-for p)
   where
     room-for : length (output u) ≤ length old
     room-for = omega (arith, room u (subst⁻¹ (λ (x : List ℕ). length x ≤ 65536) e (omega (arith, length-take 65536 s))))
-
-    bytes : new ≡ output u ++ drop (length (output u)) old
-    bytes = p .bytes ∙ ap (λ (l : List ℕ). l ++ drop (length (output u)) old) (take-all (length old) (output u) room-for)
-
-    count : r ≡ length (output u)
-    count = p .count ∙ omega (arith, room-for)
-
-    fits : r ≤ length new
-    fits = omega (arith, count, ap length bytes, length-append (output u) (drop (length (output u)) old))

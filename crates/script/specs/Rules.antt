@@ -1,11 +1,11 @@
 -- Document 01, "The program `segment`": how a script's bytes are read, and what is written. This is the file to believe of
--- the crate, with the segment's rules.
-use mathlib.Core.Path.{_≡_}
-use Prim.Native.Nat.{ℕ, zero, suc, _+_, _*_, _/_, _%_, _≤_, min}
+-- the crate, with the segment's rules and those of text.
+use Prim.Native.Nat.{ℕ, zero, suc, _+_, _*_}
 use mathlib.Core.Bool.{Bool, cond}
 use mathlib.Core.List.{List, [], _∷_, _++_}
-use lib.Dec.{ltb, leb, eqb}
+use lib.Dec.{leb, eqb}
 use lib.ListN.{length, getD, take, drop}
+use Rattle.text.specs.Rules.{hex, decimal, space, feed}
 use Rattle.node.specs.Rules.{Answer, accepted, refused, Value, done, left, idBytes, packed}
 use Rattle.headers.specs.declared.frame.Frame.{Frame}
 use Rattle.table.specs.Rules.{
@@ -103,35 +103,12 @@ listed end = []
 
 -- THE LINES, as bytes
 
--- 0 to 9, then A to F.
-unfoldable pub digit : ℕ → ℕ
-digit n = cond (ltb n 10) (48 + n) (55 + n)
-
--- The last k hexadecimal digits of n.
-unfoldable pub hex : (k n : ℕ) → List ℕ
-hex zero n = []
-hex (suc k) n = hex k (n / 16) ++ digit (n % 16) ∷ []
-
--- The decimal digits of n, at most k; n has no more than n + 1.
-unfoldable pub decimalUpTo : (k n : ℕ) → List ℕ
-decimalUpTo zero n = []
-decimalUpTo (suc k) n = cond (ltb n 10) (digit n ∷ []) (decimalUpTo k (n / 10) ++ digit (n % 10) ∷ [])
-
-abbrev pub decimal : ℕ → List ℕ
-decimal n = decimalUpTo (suc n) n
-
--- " ", "ok", "refused ", and a line feed.
-abbrev pub space : List ℕ
-space = 32 ∷ []
-
+-- "ok" and "refused ".
 abbrev pub ok : List ℕ
 ok = 111 ∷ 107 ∷ []
 
 abbrev pub refusedWord : List ℕ
 refusedWord = 114 ∷ 101 ∷ 102 ∷ 117 ∷ 115 ∷ 101 ∷ 100 ∷ 32 ∷ []
-
-abbrev pub feed : List ℕ
-feed = 10 ∷ []
 
 -- The data of a frame, if any, unbroken: two digits for each byte that the length counts.
 unfoldable pub dataText : (len bytes : ℕ) → List ℕ
@@ -167,16 +144,3 @@ output bytes = outputOf (scriptOf bytes)
 -- A longer input is used to this length.
 abbrev pub used : List ℕ → List ℕ
 used bytes = take 65536 bytes
-
--- A BUFFER that the text is put into, which may be too short: as much of the text as it has room for, then what was there;
--- and how many of its bytes are text.
-pub record Printed (text old new : List ℕ) (n : ℕ) : Type 0 where
-  pub bytes : new ≡ take (length old) text ++ drop (length text) old
-  pub count : n ≡ min (length old) (length text)
-
--- One that is long enough has the whole text. The last two follow: a caller that passes the text on is asked for them.
-pub record PrintedWhole (text old new : List ℕ) (n : ℕ) : Type 0 where
-  pub bytes : new ≡ text ++ drop (length text) old
-  pub count : n ≡ length text
-  pub fits : n ≤ length new
-  pub counted : n ≡ length (take n new)

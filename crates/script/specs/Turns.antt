@@ -1,11 +1,13 @@
 -- A run, turn by turn: what is written, followed by what is still to come, stays the whole output.
 use mathlib.Core.Path.{_≡_, refl, ap, sym, subst⁻¹, _∙_}
-use Prim.Native.Nat.{ℕ, _+_, _-_, _≤_, _<_, min}
+use Prim.Native.Nat.{ℕ, _+_, _-_, _≤_, _<_}
 use mathlib.Core.Bool.{Bool, true, false, not, cond}
 use mathlib.Core.List.{List, [], _∷_, _++_, append-assoc, append-nil}
 use native.Mathlib.Omega.{arith}
-use lib.ListN.{length, take, drop, length-drop}
+use lib.ListN.{length, drop, length-drop}
 use lib.Seq.{drop-drop}
+use Rattle.text.specs.Rules.{sheet, write, Wrote, Printed}
+use Rattle.text.specs.Sheet.{carried, printed}
 use Rattle.node.specs.Rules.{Answer, Value, refused}
 use Rattle.node.specs.Answers.{answerAs}
 use Rattle.node.specs.declared.answer.Answer as A
@@ -13,9 +15,8 @@ use Rattle.table.specs.Rules.{limit, start, Command, answer, step, run, isKept}
 use Rattle.table.specs.Words.{lateOf, Fresh}
 use Rattle.table.specs.Promise.{Does}
 use Rattle.claim.specs.Claim.{Carried, begun, then, run-snoc, follows, told}
-use Rattle.script.specs.Rules.{Found, command, refusal, nothing, readOf, Script, next, stop, end, onward, scriptOf, listed, line, lines, lastLine, outputOf, output, Printed}
+use Rattle.script.specs.Rules.{Found, command, refusal, nothing, readOf, Script, next, stop, end, onward, scriptOf, listed, line, lines, lastLine, outputOf, output}
 use Rattle.script.specs.Answers.{readAs}
-use Rattle.script.specs.Sheet.{Sheet, sheet, write, Wrote, carried, printed}
 use Rattle.script.specs.Scripts.{taken, taken-within, next-takes, goes-on}
 use Rattle.script.specs.declared.command.Read.{Read}
 use Rattle.script.specs.declared.program.Progress.{Progress}
@@ -196,7 +197,8 @@ module _ (script old t out t′ out′ : List ℕ) (at : ℕ) (p q : Progress) (
 -- The last line ends the output.
 pub through-printed : (script old t out new : List ℕ) (p : Progress) (r : ℕ) (late : Bool) → Through script old p t out → late ≡ lateOf t
     → Wrote (sheet out (p .place)) (lastLine (not late)) (sheet new r) → Printed (output script) old new r
-through-printed script old t out new p r late through is wrote = record { bytes = ap (λ (s : Sheet). s .text) whole; count = ap (λ (s : Sheet). s .at) whole }
+through-printed script old t out new p r late through is wrote =
+    printed (output script) old new r (record { is = wrote .is ∙ ap (write (sheet out (p .place))) text ∙ g .text })
   where
     g : Going script old (through .at) p t out
     g = through .going
@@ -212,6 +214,3 @@ through-printed script old t out new p r late through is wrote = record { bytes 
     text =
         ap lastLine said ∙ sym (ahead-end (g .commands) (p .done))
         ∙ ap (ahead (g .commands) (p .done)) (sym (rest-none script (through .at) p (through .last)))
-
-    whole : sheet new r ≡ sheet (take (length old) (output script) ++ drop (length (output script)) old) (min (length old) (length (output script)))
-    whole = wrote .is ∙ ap (write (sheet out (p .place))) text ∙ g .text ∙ printed old (output script)

@@ -12,9 +12,9 @@ ghost use Prim.Native.Nat.{_+_, _<_, _^_};
 ghost use Rattle.node.specs.Rules.{refused};
 ghost use Rattle.table.specs.Words.{Fresh};
 ghost use Rattle.table.specs.Promise.{Does};
-ghost use Rattle.script.specs.Rules.{line, output, used, Printed, PrintedWhole};
+ghost use Rattle.text.specs.Rules.{sheet, Wrote, Printed, PrintedWhole};
+ghost use Rattle.script.specs.Rules.{line, output, used};
 ghost use Rattle.script.specs.Answers.{commandAs, readAs};
-ghost use Rattle.script.specs.Sheet.{sheet, Wrote};
 ghost use Rattle.script.specs.Turns.{Turned, Through};
 
 // Where a run stands: how many commands have their line, the place in the buffer, and whether there may be more to read.

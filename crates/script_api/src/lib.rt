@@ -1,5 +1,6 @@
 // A whole run of a script for C and Rust: pointers with lengths, for tests and benchmarks.
-ghost use Rattle.script.specs.Rules.{output, Printed};
+ghost use Rattle.text.specs.Rules.{Printed};
+ghost use Rattle.script.specs.Rules.{output};
 
 #[no_mangle]
 pub extern "C" fn script_run(script: &[u8], out: &mut [u8]) -> usize

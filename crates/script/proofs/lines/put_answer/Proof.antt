@@ -1,7 +1,7 @@
 use mathlib.Core.Path.{sym, ap, _∙_}
 use Prim.Native.Nat.{ℕ}
 use Rattle.script.specs.Rules.{answerText}
-use Rattle.script.specs.Sheet.{then, alike}
+use Rattle.text.specs.Sheet.{then, alike}
 use Rattle.node.specs.Rules.{refused}
 use Rattle.node.specs.Answers.{answerAs}
 use Rattle.node.specs.declared.answer.Answer.{Answer}

@@ -1,6 +1,6 @@
 use native.Mathlib.Omega.{arith}
-use Rattle.script.specs.Rules.{hex}
-use Rattle.script.specs.Sheet.{blank, then, alike}
+use Rattle.text.specs.Rules.{hex}
+use Rattle.text.specs.Sheet.{blank, then, alike}
 use Rattle.script.specs.Text.{data-none, data-short, data-long}
 use mathlib.Core.List.{[], _∷_, _++_}
 use Prim.Native.Nat.{ℕ, _*_}

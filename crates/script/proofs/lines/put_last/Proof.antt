@@ -1,5 +1,5 @@
 use mathlib.Core.Bool.{Bool, not}
-use Rattle.script.specs.Sheet.{alike}
+use Rattle.text.specs.Sheet.{alike}
 use Rattle.script.specs.Rules.{lastLine}
 use mathlib.Core.Path.{sym, ap}
 use borrow.Author.Needs.{needs}

@@ -1,4 +1,4 @@
-use Rattle.script.specs.Sheet.{then}
+use Rattle.text.specs.Sheet.{then}
 use borrow.Author.Needs.{needs}
 use Rattle.script.proofs.lines.put_opening.Statement.{statement}
 use Rattle.script.proofs.lines.put_opening.Tie as tie

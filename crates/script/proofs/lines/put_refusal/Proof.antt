@@ -1,5 +1,5 @@
 use Rattle.script.specs.Rules.{answerText}
-use Rattle.script.specs.Sheet.{then}
+use Rattle.text.specs.Sheet.{then}
 use borrow.Author.Needs.{needs}
 use Rattle.script.proofs.lines.put_refusal.Statement.{statement}
 use Rattle.script.proofs.lines.put_refusal.Tie as tie

@@ -1,0 +1,4 @@
+pub mod Rules
+pub mod Sheet
+pub mod Hex
+pub mod Decimal
