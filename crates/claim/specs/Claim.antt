@@ -3,7 +3,7 @@ use mathlib.Core.Path.{_≡_, refl, sym, ap, subst, _∙_}
 use mathlib.Core.Logic.{_≢_}
 use mathlib.Core.Bool.{Bool, true, false, not, cond, _||_, _&&_, and-assoc}
 use mathlib.Core.List.{List, [], _∷_, _++_, map, map-append}
-use Prim.Native.Nat.{ℕ, _+_, _*_, _<_, _≤_}
+use Prim.Native.Nat.{ℕ, _+_, _<_, _≤_}
 use native.Mathlib.Omega.{arith}
 use lib.Dec.{ltb}
 use borrow.Author.Tests.{not-true, lt-ltb, ltb-true}
@@ -16,7 +16,6 @@ use Rattle.table.specs.Rules.{
   places,
   limit,
   Place,
-  place,
   Segment,
   segment,
   blank,
@@ -40,15 +39,14 @@ use Rattle.table.specs.Rules.{
   ageBy,
   ticks,
   old,
-  oldAt,
   ageStep,
   aged,
   kept,
   noAges,
   isKept,
 }
-use Rattle.table.specs.Words.{Cell, cell, frameOf, nodeAt, inbox, placeOf, agesOf, cellAt, lateOf, view, viewAges, Fresh}
-use Rattle.table.specs.WordLaws.{view-at, ages-at}
+use Rattle.table.specs.Words.{Cell, frameOf, nodeAt, inbox, placeOf, agesOf, cellAt, lateOf, view, viewAges, Fresh}
+use Rattle.table.specs.WordLaws.{view-at}
 use Rattle.table.specs.AgeLaws.{
   around-step,
   out-any,

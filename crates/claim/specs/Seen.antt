@@ -1,16 +1,11 @@
 -- What the argument for one alias sees of a place: how its node stands, the age of what waits, the inbox with its ages; and
 -- the laws for each way that these change.
-use mathlib.Core.Path.{_≡_, refl, sym, ap, subst, _∙_}
+use mathlib.Core.Path.{_≡_, refl}
 use mathlib.Core.Logic.{_⊎_, inl, inr}
-use mathlib.Core.Bool.{Bool, true, false, cond}
 use mathlib.Core.List.{List, [], _∷_, _++_, map}
-use Prim.Native.Nat.{ℕ, zero, suc, _+_, _≤_}
+use Prim.Native.Nat.{ℕ, _+_, _≤_}
 use native.Mathlib.Omega.{arith}
-use lib.Dec.{ltb, eqb}
 use lib.ListN.{length}
-use borrow.Author.Tests.{ltb-false, eqb-true}
-use Rattle.node.specs.Laws.{neither}
-use Rattle.node.specs.Rules.{Held, heldOf, timedIn, timedFor, received}
 use Rattle.node.specs.Stand.{
   Stand,
   idle,
@@ -31,8 +26,6 @@ use Rattle.node.specs.Stand.{
   still-departs,
   holder-leaves,
   ower-leaves,
-  StaysOrTurns,
-  Meets,
   Grows,
   counts,
   rests,
@@ -49,14 +42,10 @@ use Rattle.node.specs.Stand.{
   grows-uses,
   grows-tests,
 }
-use Rattle.node.specs.Events.{timed-stand}
 use Rattle.headers.specs.declared.frame.Frame.{Frame}
-use Rattle.node.specs.declared.state.Node.{Node}
-use Rattle.node.specs.declared.timed.Timed.{Timed}
-use Rattle.node.specs.declared.timed.Timed.the-variants.{Untimed, Reply, Amr}
 use Rattle.claim.specs.Bus.{Talk, Local, Emits, Gets, Passes, Kept}
 use Rattle.table.specs.Promise.{AgesTo, OutTo}
-use Rattle.table.specs.Rules.{Ages, agesOn, passAge, anyOld, timedOld, heldOld, oldAt}
+use Rattle.table.specs.Rules.{agesOn, passAge}
 
 pub record Seen : Type 0 where
   pub stand : Stand

@@ -38,7 +38,6 @@ use Rattle.node.specs.Rules.{
   onMessage,
   onEnquiry,
   onRelease,
-  Order,
   powerOn,
   fail,
   message,
@@ -49,10 +48,8 @@ use Rattle.node.specs.Rules.{
   leave,
   receive,
   tick,
-  onOrder,
   outcome,
 }
-use Rattle.headers.specs.declared.frame.Frame.{Frame}
 use Rattle.node.specs.declared.state.Node.{Node}
 use Rattle.node.specs.declared.state.Host.{Host}
 use Rattle.node.specs.declared.state.Phase.the-variants.{Leaving}

@@ -4,7 +4,7 @@ use mathlib.Core.Path.{_≡_, refl, sym, ap, subst, _∙_}
 use mathlib.Core.Logic.{_≢_}
 use mathlib.Core.Bool.{Bool, true, false, false≢true, cond, _||_}
 use mathlib.Core.List.{List, [], _∷_, _++_, map, map-append}
-use Prim.Native.Nat.{ℕ, zero, suc, _+_, _%_, _<_, _≤_, max}
+use Prim.Native.Nat.{ℕ, zero, suc, _+_, _%_, _<_, _≤_}
 use native.Mathlib.Omega.{arith}
 use native.Mathlib.Nat.{not-suc-le-zero}
 use lib.Dec.{ltb, eqb}
@@ -32,10 +32,8 @@ use Rattle.table.specs.Rules.{
   rest,
   placeBy,
   effect,
-  within,
   Ages,
   ages,
-  none,
   agesOn,
   goesOn,
   agesBy,
@@ -51,7 +49,7 @@ use Rattle.table.specs.Rules.{
   old,
 }
 use Rattle.table.specs.Promise.{around, allAround, AgesTo, OutTo, InLimit, Under, OldestFirst}
-use Rattle.table.specs.Words.{round, Item, item, Cell, cell, frameOf, ageIn, placeOf, agesOf}
+use Rattle.table.specs.Words.{round, Item, item, Cell, frameOf, ageIn, placeOf, agesOf}
 use Rattle.table.specs.Parts.{cellBy, later, laterItem, firstAge, headAge}
 
 -- MODULO THE ROUND
@@ -61,11 +59,6 @@ twice x = omega arith
 
 shifted : (x d : ℕ) → (x % round + d) % round ≡ (x + d) % round
 shifted x d = omega arith
-
-module _ (h : ℕ → ℕ) where
-  map-rest : (gs : List ℕ) → map h (rest gs) ≡ rest (map h gs)
-  map-rest [] = refl
-  map-rest (g ∷ gs) = refl
 
 around-list : (gs : List ℕ) → map (λ x. x % round) (map (λ x. x % round) gs) ≡ map (λ x. x % round) gs
 around-list [] = refl

@@ -1,6 +1,6 @@
 -- What every command promises of the words that it is lent.
 use mathlib.Core.Path.{_≡_}
-use mathlib.Core.Bool.{Bool, false, _||_}
+use mathlib.Core.Bool.{false, _||_}
 use mathlib.Core.List.{List, [], _∷_, map}
 use Prim.Native.Nat.{ℕ, _-_, _%_, _<_, _≤_}
 use Rattle.node.specs.Rules.{refused, timedFor}
@@ -9,7 +9,7 @@ use Rattle.node.specs.declared.answer.Answer as A
 use Rattle.node.specs.declared.state.Node.{Node}
 use Rattle.node.specs.declared.timed.Timed.{Timed}
 use Rattle.node.specs.declared.timed.Timed.the-variants.{Untimed, Reply, Amr}
-use Rattle.table.specs.Rules.{places, limit, Segment, Command, answer, step, Ages, ages, ageStep, ticks, old}
+use Rattle.table.specs.Rules.{places, limit, Command, answer, step, Ages, ages, ageStep, ticks, old}
 use Rattle.table.specs.Words.{round, Item, nodeAt, inbox, agesOf, cellAt, lateOf, slackOf, view, viewAges, Held}
 
 -- Ages modulo the round of the clock.

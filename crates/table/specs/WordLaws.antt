@@ -1,5 +1,5 @@
 -- Laws of the words: what is seen of them where some are as they were, and how changes of one place follow one another.
-use mathlib.Core.Path.{_≡_, refl, sym, ap, _∙_}
+use mathlib.Core.Path.{_≡_, refl, ap, _∙_}
 use mathlib.Core.Logic.{_≢_, _⊎_, inl, inr, ⊎-elim}
 use Prim.Native.Nat.{ℕ, zero, suc, _+_, _*_, _%_, _<_, _≤_}
 use mathlib.Core.Bool.{Bool, true, false, cond}
@@ -9,7 +9,7 @@ use lib.Dec.{ltb, eqb}
 use borrow.Author.Tests.{ltb-true, ltb-false, lt-ltb, eqb-true, eqb-false}
 use lib.ListN.{length, getD}
 use Rattle.node.specs.Rules.{timedFor}
-use Rattle.table.specs.Rules.{places, inboxRoom, Place, blank, Ages, none}
+use Rattle.table.specs.Rules.{places, inboxRoom, blank, none}
 use Rattle.table.specs.Words.{
   Cell,
   cell,
@@ -35,7 +35,6 @@ use Rattle.table.specs.Words.{
   inbox,
   ageOf,
   cellAt,
-  lateOf,
   slackOf,
   view,
   viewAges,
