@@ -52,6 +52,30 @@ use Rattle.table.specs.Promise.{around, allAround, AgesTo, OutTo, InLimi
 use Rattle.table.specs.Words.{round, Item, item, Cell, frameOf, ageIn, placeOf, agesOf}
 use Rattle.table.specs.Parts.{cellBy, later, laterItem, firstAge, headAge}
 
+-- A PLACE WITH ITS AGES
+
+pub place-by : (e : Effect) (x : Cell) → placeOf (cellBy e x) ≡ placeBy e (placeOf x)
+place-by stays x = refl
+place-by (becomes m) x = refl
+place-by (begins m) x = refl
+place-by (reads m) x = ap (place m) (go (x .inbox))
+  where
+    go : (xs : List Item) → map frameOf (rest xs) ≡ rest (map frameOf xs)
+    go [] = refl
+    go (y ∷ xs) = refl
+place-by (gets f) x = ap (place (x .node)) (map-append frameOf (x .inbox) (item f 0 ∷ []))
+
+pub ages-by : (e : Effect) (x : Cell) → agesOf (cellBy e x) ≡ agesBy e (x .node) (agesOf x)
+ages-by stays x = refl
+ages-by (becomes m) x = refl
+ages-by (begins m) x = refl
+ages-by (reads m) x = ap (λ (gs : List ℕ). ages gs (goesOn (x .node) m (x .age))) (go (x .inbox))
+  where
+    go : (xs : List Item) → map ageIn (rest xs) ≡ rest (map ageIn xs)
+    go [] = refl
+    go (y ∷ xs) = refl
+ages-by (gets f) x = ap (λ (gs : List ℕ). ages gs (x .age)) (map-append ageIn (x .inbox) (item f 0 ∷ []))
+
 -- MODULO THE ROUND
 
 twice : (x : ℕ) → x % round % round ≡ x % round
@@ -346,30 +370,6 @@ module _ (b : ℕ) (lo : b < round) where
   pub old-around : (i o n : ℕ) (S : Segment) (G : ℕ → Ages) → ((k : ℕ) → k < n → InLimit b b (S .at k .node) (G k))
       → old i o n S (allAround G) ≡ old i o n S G
   old-around i o n S G h = old-ext i o n S (allAround G) G (λ k l. at-around i o (S .at k .node) (G k) (h k l))
-
--- A PLACE WITH ITS AGES
-
-pub place-by : (e : Effect) (x : Cell) → placeOf (cellBy e x) ≡ placeBy e (placeOf x)
-place-by stays x = refl
-place-by (becomes m) x = refl
-place-by (begins m) x = refl
-place-by (reads m) x = ap (place m) (go (x .inbox))
-  where
-    go : (xs : List Item) → map frameOf (rest xs) ≡ rest (map frameOf xs)
-    go [] = refl
-    go (y ∷ xs) = refl
-place-by (gets f) x = ap (place (x .node)) (map-append frameOf (x .inbox) (item f 0 ∷ []))
-
-pub ages-by : (e : Effect) (x : Cell) → agesOf (cellBy e x) ≡ agesBy e (x .node) (agesOf x)
-ages-by stays x = refl
-ages-by (becomes m) x = refl
-ages-by (begins m) x = refl
-ages-by (reads m) x = ap (λ (gs : List ℕ). ages gs (goesOn (x .node) m (x .age))) (go (x .inbox))
-  where
-    go : (xs : List Item) → map ageIn (rest xs) ≡ rest (map ageIn xs)
-    go [] = refl
-    go (y ∷ xs) = refl
-ages-by (gets f) x = ap (λ (gs : List ℕ). ages gs (x .age)) (map-append ageIn (x .inbox) (item f 0 ∷ []))
 
 -- NO FRAME IS OLDER THAN THE ONE BEFORE IT
 
