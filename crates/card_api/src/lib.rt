@@ -1,4 +1,6 @@
-// The table's commands for C: the same operations over a plain pointer to its words, answers as numbers.
+// The table for C: its operations over a plain pointer to its words, answers as numbers. Here the commands; looking in look.rt.
+pub mod look;
+
 use headers::frame::Frame;
 use node::answer::Answer;
 use table::layout::WORDS;

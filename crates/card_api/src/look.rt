@@ -1,0 +1,87 @@
+// Looking at a node, for C: what is seen of it, and the frames of its inbox, as words. A refusal writes none.
+use headers::frame::Frame;
+use node::due::Due;
+use table::layout::WORDS;
+use table::look::Found;
+use table::look::Looked;
+use table::look::Seen;
+ghost use mathlib.Core.Path.{_≡_};
+ghost use Rattle.table.specs.Looks.{looks, looksIn};
+ghost use Rattle.table.specs.Answers.{seenAs};
+ghost use Rattle.table.specs.Words.{view};
+ghost use Rattle.card_api.specs.Written.{Wrote};
+ghost use Rattle.card_api.specs.Looks.{seenWords, frameWords};
+
+fn write_seen(seen: &mut [u64; 12], s: Seen)
+    ensures { λ _. ⌜ now (seen .exit) ≡ seenWords (seenAs s) ⌝ }
+{
+    let a = s.alias;
+    let due = s.due;
+    match due {
+        Due::Nothing => {
+            *seen = [
+                s.state as u64,
+                s.id,
+                a.0 as u64,
+                0,
+                0,
+                0,
+                0,
+                s.count,
+                0,
+                0,
+                0,
+                0,
+            ];
+        }
+        Due::Next(f) => {
+            *seen = [
+                s.state as u64,
+                s.id,
+                a.0 as u64,
+                1,
+                f.header as u64,
+                f.len as u64,
+                f.bytes,
+                s.count,
+                0,
+                0,
+                0,
+                0,
+            ];
+        }
+    }
+}
+
+// State, Node ID, alias; 1 and the due frame's header, length and data, or four times 0; the frames in the inbox.
+#[no_mangle]
+pub extern "C" fn card_look(table: &[u64; WORDS], index: usize, seen: &mut [u64; 12]) -> u64
+    ensures { λ r. ⌜ Wrote seenWords (looks (view (now (table .entry))) index) r (now (seen .entry)) (now (seen .exit)) ⌝ }
+{
+    match table::look::look(table, index) {
+        Looked::Seen(s) => {
+            write_seen(&mut *seen, s);
+            0
+        }
+        Looked::Refused(r) => r.number() as u64,
+    }
+}
+
+// A frame of the inbox, 0 for the oldest: kind, header, length, data.
+#[no_mangle]
+pub extern "C" fn card_inbox(
+    table: &[u64; WORDS],
+    index: usize,
+    place: usize,
+    frame: &mut [u64; 4],
+) -> u64
+    ensures { λ r. ⌜ Wrote frameWords (looksIn (view (now (table .entry))) index place) r (now (frame .entry)) (now (frame .exit)) ⌝ }
+{
+    match table::look::inbox(table, index, place) {
+        Found::Frame(f) => {
+            *frame = [f.kind as u64, f.header as u64, f.len as u64, f.bytes];
+            0
+        }
+        Found::Refused(r) => r.number() as u64,
+    }
+}
