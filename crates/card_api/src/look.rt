@@ -6,54 +6,61 @@ use table::look::Found;
 use table::look::Looked;
 use table::look::Seen;
 ghost use mathlib.Core.Path.{_≡_};
+ghost use Rattle.node.specs.Answers.{dueAs};
 ghost use Rattle.table.specs.Looks.{looks, looksIn};
 ghost use Rattle.table.specs.Answers.{seenAs};
 ghost use Rattle.table.specs.Words.{view};
 ghost use Rattle.card_api.specs.Written.{Wrote};
-ghost use Rattle.card_api.specs.Looks.{seenWords, frameWords};
+ghost use Rattle.card_api.specs.Looks.{dueMark, dueFrame, seenWords, frameWords};
+
+// 1 where a frame is due.
+fn is_due(d: Due) -> u64
+    ensures { λ r. ⌜ r ≡ dueMark (dueAs d) ⌝ }
+{
+    match d {
+        Due::Nothing => 0,
+        Due::Next(_) => 1,
+    }
+}
+
+// The due frame, all 0 where none is.
+fn due_frame(d: Due) -> Frame
+    ensures { λ r. ⌜ r ≡ dueFrame (dueAs d) ⌝ }
+{
+    match d {
+        Due::Nothing => Frame {
+            kind: 0,
+            header: 0,
+            len: 0,
+            bytes: 0,
+        },
+        Due::Next(f) => f,
+    }
+}
 
 fn write_seen(seen: &mut [u64; 12], s: Seen)
     ensures { λ _. ⌜ now (seen .exit) ≡ seenWords (seenAs s) ⌝ }
 {
     let a = s.alias;
-    let due = s.due;
-    match due {
-        Due::Nothing => {
-            *seen = [
-                s.state as u64,
-                s.id,
-                a.0 as u64,
-                0,
-                0,
-                0,
-                0,
-                s.count,
-                0,
-                0,
-                0,
-                0,
-            ];
-        }
-        Due::Next(f) => {
-            *seen = [
-                s.state as u64,
-                s.id,
-                a.0 as u64,
-                1,
-                f.header as u64,
-                f.len as u64,
-                f.bytes,
-                s.count,
-                0,
-                0,
-                0,
-                0,
-            ];
-        }
-    }
+    let d = s.due;
+    let f = due_frame(d);
+    *seen = [
+        s.state as u64,
+        s.id,
+        a.0 as u64,
+        is_due(d),
+        f.header as u64,
+        f.len as u64,
+        f.bytes,
+        s.count,
+        0,
+        0,
+        0,
+        0,
+    ];
 }
 
-// State, Node ID, alias; 1 and the due frame's header, length and data, or four times 0; the frames in the inbox.
+// State, Node ID, alias; whether a frame is due, its header, length and data; how many frames the inbox has; four words 0.
 #[no_mangle]
 pub extern "C" fn card_look(table: &[u64; WORDS], index: usize, seen: &mut [u64; 12]) -> u64
     ensures { λ r. ⌜ Wrote seenWords (looks (view (now (table .entry))) index) r (now (seen .entry)) (now (seen .exit)) ⌝ }

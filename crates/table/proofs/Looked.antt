@@ -3,12 +3,11 @@ use mathlib.Core.Path.{_≡_, refl, sym, ap, _∙_}
 use Prim.Native.Nat.{ℕ, zero, suc, _+_, _*_, _%_, _<_, _≤_}
 use mathlib.Core.List.{List, map}
 use native.Mathlib.Omega.{arith}
-use lib.Dec.{leb}
 use borrow.Author.Tests.{le-leb, lt-leb}
 use lib.ListN.{length, getD, length-map}
-use mathlib.Core.Bool.{Bool}
+use mathlib.Core.Bool.{Bool, true}
 use Rattle.headers.specs.declared.frame.Frame.{Frame}
-use Rattle.node.specs.Rules.{accepted, refused, refuse, wait, Due, dueOf}
+use Rattle.node.specs.Rules.{Answer, accepted, refused, refuse, wait, Due, dueOf}
 use Rattle.node.specs.declared.state.Node.{Node}
 use Rattle.table.specs.Rules.{places, inboxRoom, Place}
 use Rattle.table.specs.Looks.{stateNumber, idSeen, aliasSeen, Seen, seen, looks, frameIn, looksIn}
@@ -39,6 +38,10 @@ seen-words t k n state id alias count d e s i a u l =
       count = (l ∙ sym (length-map (inbox t k) frameOf)) j;
     }
 
+-- a refusal whose test holds
+refused-by : {A : Type 0} (a : Answer A) (b : Bool) (number : ℕ) → b ≡ true → refuse b number a ≡ refused number
+refused-by a b number e = ap (λ (b : Bool). refuse b number a) e
+
 module _ (t : List ℕ) (k : ℕ) where
   no-frame : (s n j : ℕ) → n ≤ j → frameIn (map frameOf (items t k s n)) j ≡ refused 6
   unfolding frameIn
@@ -65,7 +68,7 @@ module _ (t : List ℕ) (k : ℕ) where
 
   pub look-1 : places ≤ k → looks (view t) k ≡ refused 1
   unfolding looks
-  look-1 l = ap (λ (b : Bool). refuse b 1 (accepted (seen (view t .at k)))) (le-leb places k l)
+  look-1 l = refused-by _ _ _ (le-leb places k l)
 
   pub look-seen : k < places → looks (view t) k ≡ accepted (seen (placeOf (cellAt t k)))
   unfolding looks
@@ -75,7 +78,7 @@ module _ (t : List ℕ) (k : ℕ) where
 
   pub in-1 : (j : ℕ) → places ≤ k → looksIn (view t) k j ≡ refused 1
   unfolding looksIn
-  in-1 j l = ap (λ (b : Bool). refuse b 1 (frameIn (view t .at k .inbox) j)) (le-leb places k l)
+  in-1 j l = refused-by _ _ _ (le-leb places k l)
 
   in-place : (j : ℕ) → k < places → looksIn (view t) k j ≡ frameIn (placeOf (cellAt t k) .inbox) j
   unfolding looksIn
