@@ -1,35 +1,125 @@
-/* The segment's commands for firmware: the proved operations of crates/card_api over one array of words.
+/* The proved operations of crates/card_api, for firmware, bus viewers and panels in C and C++.
  *
- * Every operation takes any operands and always returns. It answers 0 where it was accepted, else document 01's refusal
- * number, and a refusal changes nothing. Link with target/staticlib/libcard_api.a (rt staticlib card_api).
+ * What an operation promises: it takes any operands and always returns; it answers 0 where it was accepted, else document 01's
+ * refusal number (card_new, map_new: nothing; card_is_late: 0 or 1); and a refusal leaves table, map and every buffer as they
+ * were. card_look, card_inbox and all with a const table or map change no word of it.
+ *
+ * What the caller owes, since nothing here can test it:
+ *  - Every pointer is valid for as many words as its parameter says, aligned as uint64_t is, and no two of a call overlap.
+ *  - One caller at a time for one table or map: an interrupt or thread that calls for it meanwhile must be kept out.
+ *  - A table came from card_new and a map from map_new, and no other code has written into them since.
+ *  - card_tick is called once a millisecond; each frame that left is put on the bus, or card_fail says that it could not be;
+ *    each frame that comes in is handed over by card_foreign.
+ *
+ * Data is one number of eight bytes, the first byte highest. Bytes past the length are ignored in what goes in, and are 0 in what
+ * comes out. c/constants holds the numbers below to the proved sources. Link with target/staticlib/libcard_api.a, which
+ * `rt staticlib card_api` writes.
  */
 #ifndef CARD_H
 #define CARD_H
 #include <stddef.h>
 #include <stdint.h>
 
-/* The words of a table. Their layout is that of crates/table/src/layout.rt. */
+#ifdef __cplusplus
+extern "C" {
+#endif
+
+/* The words of a table. How they are laid out is no caller's business: card_look and card_inbox show what they hold. */
 #define CARD_WORDS 1928
 
-/* All nodes Off. Call it before any other operation. */
+/* The nodes of a table have the indexes 0 to 23, and an inbox has the places 0 to 31. */
+#define CARD_NODES 24
+#define CARD_INBOX 32
+
+/* Document 01's refusals. 10 and 11 are given by the program `segment` alone. */
+enum {
+    CARD_REFUSED_BAD_INDEX = 1,     /* the index is above 23 */
+    CARD_REFUSED_OFF = 2,           /* the node is Off */
+    CARD_REFUSED_BAD_NODE_ID = 3,   /* the Node ID is 0 or has more than 48 bits */
+    CARD_REFUSED_NOTHING_DUE = 4,   /* the node has no due frame */
+    CARD_REFUSED_INBOX_FULL = 5,    /* an inbox that the frame would join is full */
+    CARD_REFUSED_INBOX_EMPTY = 6,   /* the inbox is empty, or has no frame at that place */
+    CARD_REFUSED_NOT_PERMITTED = 7, /* the node is not Permitted */
+    CARD_REFUSED_HOST_WAITING = 8,  /* a host frame waits already */
+    CARD_REFUSED_MALFORMED = 9,     /* an operand is out of range */
+    CARD_REFUSED_UNKNOWN = 10,      /* the command is unknown */
+    CARD_REFUSED_CUT_SHORT = 11     /* the script ends within the command */
+};
+
+/* COMMANDS, as document 01 has them. The refusals of each are tested in the order given. */
+
+/* All nodes Off. */
 void card_new(uint64_t table[CARD_WORDS]);
 
-/* 1 where an age has exceeded 40 ticks since card_new, else 0. */
+/* 1 where a frame has stood in an inbox, or a reply RID or an AMR has waited, for more than 40 ticks since card_new; else 0. */
 uint64_t card_is_late(const uint64_t table[CARD_WORDS]);
 
+/* The node starts anew with this Node ID, whatever it did before. 1, 3. */
 uint64_t card_power_on(uint64_t table[CARD_WORDS], size_t index, uint64_t id);
 
-/* The frame that left, where it was accepted: its header, its length, its data with the first byte highest. */
+/* The node's due frame leaves: put it on the bus. It joins the inboxes of the other nodes by itself. 1, 2, 4, 5. */
 uint64_t card_send(uint64_t table[CARD_WORDS], size_t index, uint64_t sent[3]);
 
+/* The places of `sent`. */
+enum { CARD_SENT_HEADER, CARD_SENT_LEN, CARD_SENT_BYTES, CARD_SENT_WORDS };
+
+/* The due frame could not be sent. 1, 2, 4. */
 uint64_t card_fail(uint64_t table[CARD_WORDS], size_t index);
+
+/* The node takes the oldest frame from its inbox and acts on it. 1, 2, 6. */
 uint64_t card_deliver(uint64_t table[CARD_WORDS], size_t index);
+
+/* A millisecond has passed. Never refused. */
 uint64_t card_tick(uint64_t table[CARD_WORDS]);
 
-/* kind: 0 extended, 1 extended remote, 2 eleven-bit; bytes: the data, the first byte highest of eight. */
+/* A frame of other equipment came. kind: 0 extended, 1 extended remote, 2 eleven-bit. 9, 5. */
 uint64_t card_foreign(uint64_t table[CARD_WORDS], uint8_t kind, uint32_t header, uint8_t len, uint64_t bytes);
+
+/* The host orders a message. 1, 2, 9, 7, 8. */
 uint64_t card_message(uint64_t table[CARD_WORDS], size_t index, uint16_t field, uint8_t len, uint64_t bytes);
+
+/* The host orders an enquiry: of length 0 for all nodes, of length 6 for the one with this Node ID. 1, 2, 9, 7, 8. */
 uint64_t card_enquiry(uint64_t table[CARD_WORDS], size_t index, uint8_t len, uint64_t bytes);
+
+/* The node shall give up its alias. 1, 2, 7. */
 uint64_t card_release(uint64_t table[CARD_WORDS], size_t index);
+
+/* LOOKING */
+
+/* What is seen of a node. 1. */
+uint64_t card_look(const uint64_t table[CARD_WORDS], size_t index, uint64_t seen[12]);
+
+/* The places of `seen`. The last four words are 0. */
+enum {
+    CARD_SEEN_STATE,      /* one of the states below */
+    CARD_SEEN_ID,         /* the Node ID, 0 where Off */
+    CARD_SEEN_ALIAS,      /* the alias in test or in use, 0 where neither */
+    CARD_SEEN_DUE,        /* 1 where a frame is due, else 0, and so are the three words of the frame: */
+    CARD_SEEN_DUE_HEADER, /* its header */
+    CARD_SEEN_DUE_LEN,    /* its length */
+    CARD_SEEN_DUE_BYTES,  /* its data */
+    CARD_SEEN_INBOX,      /* how many frames the inbox has */
+    CARD_SEEN_WORDS = 12
+};
+
+enum {
+    CARD_STATE_OFF,
+    CARD_STATE_TESTING, /* asks for its alias */
+    CARD_STATE_RESERVED,
+    CARD_STATE_PERMITTED, /* up: it may send messages under its alias */
+    CARD_STATE_LEAVING,   /* still uses its alias, until its AMR has left */
+    CARD_STATE_RESTING,   /* released */
+    CARD_STATE_SILENT     /* another has its Node ID */
+};
+
+/* A frame of the node's inbox, at place 0 the oldest. 1, 6. */
+uint64_t card_inbox(const uint64_t table[CARD_WORDS], size_t index, size_t place, uint64_t frame[4]);
+
+/* The places of `frame`. */
+enum { CARD_FRAME_KIND, CARD_FRAME_HEADER, CARD_FRAME_LEN, CARD_FRAME_BYTES, CARD_FRAME_WORDS };
+
+#ifdef __cplusplus
+}
+#endif
 
 #endif
