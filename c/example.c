@@ -1,45 +1,128 @@
-/* Powers 24 nodes on together and lets each go from its first CID to Permitted on a bus without other equipment. */
+/* 24 exhibits on one breaker, as firmware would run them on a bus with other equipment: when each is up, and under which alias. */
 #include "card.h"
 #include <inttypes.h>
 #include <stdio.h>
 
 static uint64_t table[CARD_WORDS];
+static unsigned now; /* milliseconds since the breaker was switched on */
+
+static const char *const STATES[] = {"Off", "Testing", "Reserved", "Permitted", "Leaving", "Resting", "Silent"};
+static const char MARKS[] = ".trPLzS";
+
+/* Two pairs of exhibits have Node IDs that are 4,095 apart: they start with one alias. */
+static uint64_t node_id(size_t exhibit) {
+    const uint64_t first = UINT64_C(0x050101010100);
+    if (exhibit == 13 || exhibit == 20)
+        return first + exhibit - 10 + 4095;
+    return first + exhibit;
+}
+
+/* What is seen of an exhibit. */
+static uint64_t seen(size_t exhibit, int place) {
+    uint64_t words[CARD_SEEN_WORDS];
+    card_look(table, exhibit, words);
+    return words[place];
+}
+
+/* One line for the whole card, a mark for each exhibit, if it has changed. */
+static void show_marks(void) {
+    static char last[CARD_NODES + 1];
+    char marks[CARD_NODES + 1] = "";
+    int changed = 0;
+    for (size_t i = 0; i < CARD_NODES; i++) {
+        marks[i] = MARKS[seen(i, CARD_SEEN_STATE)];
+        changed |= marks[i] != last[i];
+        last[i] = marks[i];
+    }
+    if (changed)
+        printf("%6u ms  %s\n", now, marks);
+}
+
+/* Which exhibits are up, and under which alias. */
+static void show_table(void) {
+    printf("\nexhibit  Node ID       state      alias  up\n");
+    for (size_t i = 0; i < CARD_NODES; i++) {
+        uint64_t words[CARD_SEEN_WORDS];
+        card_look(table, i, words);
+        uint64_t state = words[CARD_SEEN_STATE], alias = words[CARD_SEEN_ALIAS];
+        printf("%7zu  %012" PRIX64 "  %-9s", i, words[CARD_SEEN_ID], STATES[state]);
+        if (alias != 0)
+            printf("    %03" PRIX64, alias);
+        else
+            printf("      -");
+        printf("  %s\n", state == CARD_STATE_PERMITTED ? "yes" : "no");
+    }
+    printf("%s\n\n", card_is_late(table) ? "late: aliases may have met" : "kept: no two exhibits use one alias");
+}
 
 /* Every frame in an inbox is delivered, so that none waits. */
 static void deliver_all(void) {
-    for (size_t i = 0; i < 24; i++)
+    for (size_t i = 0; i < CARD_NODES; i++)
         while (card_deliver(table, i) == 0) {
         }
 }
 
-/* Each node sends its due frame, if it has one; how many did, and the last that left. */
-static unsigned send_all(uint64_t last[3]) {
-    unsigned sent = 0;
-    for (size_t i = 0; i < 24; i++)
-        if (card_send(table, i, last) == 0) {
-            sent++;
+/* Each exhibit sends all that is due; here a driver would put the frame on the bus. */
+static void send_all(void) {
+    uint64_t sent[CARD_SENT_WORDS];
+    for (size_t i = 0; i < CARD_NODES; i++)
+        while (card_send(table, i, sent) == 0)
             deliver_all();
-        }
-    return sent;
+}
+
+/* The main loop of firmware, for so many milliseconds. */
+static void run(unsigned milliseconds) {
+    for (unsigned i = 0; i < milliseconds; i++) {
+        send_all();
+        show_marks();
+        card_tick(table);
+        now++;
+    }
+}
+
+/* A frame of other equipment, in every inbox until it is delivered. */
+static void foreign(const char *what, uint32_t header, uint8_t len, uint64_t bytes) {
+    uint64_t frame[CARD_FRAME_WORDS];
+    card_foreign(table, 0, header, len, bytes);
+    card_inbox(table, 0, 0, frame);
+    printf("%6u ms  other equipment: %s, %08" PRIX64 "\n", now, what, frame[CARD_FRAME_HEADER]);
+    deliver_all();
+}
+
+/* One breaker. Other equipment sends under an alias that exhibit 17 tests. */
+static void switch_on(void) {
+    unsigned on = 0;
+    card_new(table);
+    for (size_t i = 0; i < CARD_NODES; i++)
+        on += card_power_on(table, i, node_id(i)) == 0;
+    printf("%u exhibits on; index 24 is refused by %" PRIu64 "\n", on, card_power_on(table, CARD_NODES, 1));
+    printf("            exhibits 0 to 23 (t Testing, r Reserved, P Permitted, L Leaving, z Resting, S Silent)\n");
+    run(100);
+    foreign("the alias that exhibit 17 tests", UINT32_C(0x195B4000) + (uint32_t)seen(17, CARD_SEEN_ALIAS), 0, 0);
+    run(310);
+}
+
+/* Host orders, an alias that other equipment takes, a Node ID that is there twice, a send that fails. */
+static void work(void) {
+    card_message(table, 3, 0x05B4, 2, UINT64_C(0xABCD000000000000));
+    card_enquiry(table, 4, 6, node_id(5) << 16);
+    printf("%6u ms  exhibit 3 has a message due, %08" PRIX64 "; exhibit 4 an enquiry, %08" PRIX64 "\n", now,
+           seen(3, CARD_SEEN_DUE_HEADER), seen(4, CARD_SEEN_DUE_HEADER));
+    run(1);
+    card_release(table, 7);
+    foreign("the alias of exhibit 5", UINT32_C(0x195B4000) + (uint32_t)seen(5, CARD_SEEN_ALIAS), 0, 0);
+    foreign("the Node ID of exhibit 9", UINT32_C(0x10701FFF), 6, node_id(9) << 16);
+    show_marks();
+    run(1);
+    card_power_on(table, 11, node_id(11));
+    card_fail(table, 11);
+    run(50);
 }
 
 int main(void) {
-    uint64_t last[3] = {0, 0, 0};
-    unsigned on = 0;
-    card_new(table);
-    for (size_t i = 0; i < 24; i++)
-        on += card_power_on(table, i, UINT64_C(0x050101010100) + i) == 0;
-    printf("%u nodes on; index 24 is refused by %" PRIu64 "\n", on, card_power_on(table, 24, 1));
-    for (int number = 7; number >= 4; number--) {
-        unsigned sent = send_all(last);
-        printf("CID %d from %u nodes, the last %08" PRIX64 "\n", number, sent, last[0]);
-    }
-    for (int i = 0; i < 201; i++)
-        card_tick(table);
-    unsigned reserved = send_all(last);
-    printf("RID from %u nodes, the last %08" PRIX64 "\n", reserved, last[0]);
-    unsigned permitted = send_all(last);
-    printf("AMD from %u nodes, the last %08" PRIX64 " with %" PRIu64 " bytes %016" PRIX64 "\n", permitted, last[0], last[1], last[2]);
-    printf("%s\n", card_is_late(table) ? "late" : "kept");
+    switch_on();
+    show_table();
+    work();
+    show_table();
     return 0;
 }

@@ -1,0 +1,241 @@
+/* A test: every operation of card.h, accepted and refused, with guard words before and behind every buffer. */
+#include "card.h"
+#include <inttypes.h>
+#include <stdio.h>
+#include <stdlib.h>
+#include <string.h>
+
+enum { GUARD = 16 };
+
+/* A buffer of so many words between its guards, and what it held before the last call. */
+struct guarded {
+    size_t words;
+    uint64_t all[GUARD + CARD_WORDS + GUARD];
+    uint64_t before[GUARD + CARD_WORDS + GUARD];
+};
+
+static struct guarded table = {.words = CARD_WORDS}, sent = {.words = CARD_SENT_WORDS}, seen = {.words = CARD_SEEN_WORDS},
+                      frame = {.words = CARD_FRAME_WORDS};
+static struct guarded *const BUFFERS[] = {&table, &sent, &seen, &frame};
+static unsigned accepted, refused;
+
+#define EACH(b) for (struct guarded *const *b = BUFFERS; b < BUFFERS + sizeof BUFFERS / sizeof *BUFFERS; b++)
+
+static uint64_t *words(struct guarded *b) {
+    return b->all + GUARD;
+}
+
+static void fail(const char *call, const char *what, uint64_t value) {
+    printf("guards: %s: %s (%" PRIu64 ")\n", call, what, value);
+    exit(1);
+}
+
+/* Guards are numbers that no operation writes. */
+static uint64_t guard(size_t place) {
+    return UINT64_C(0x9E3779B97F4A7C15) * (place + 1);
+}
+
+static void fill(struct guarded *b) {
+    for (size_t i = 0; i < GUARD + CARD_WORDS + GUARD; i++)
+        b->all[i] = guard(i);
+}
+
+static void check_guards(const char *call) {
+    EACH(b)
+        for (size_t i = 0; i < GUARD; i++) {
+            size_t behind = GUARD + (*b)->words + i;
+            if ((*b)->all[i] != guard(i))
+                fail(call, "a word before a buffer has changed", i);
+            if ((*b)->all[behind] != guard(behind))
+                fail(call, "a word behind a buffer has changed", i);
+        }
+}
+
+static void keep(void) {
+    EACH(b) memcpy((*b)->before, (*b)->all, sizeof (*b)->all);
+}
+
+/* The buffer has not changed since `keep`. */
+static void check_same(const char *call, const struct guarded *b) {
+    if (memcmp(b->all, b->before, sizeof b->all) != 0)
+        fail(call, "a buffer has changed", b->words);
+}
+
+static void check_accepted(const char *call, uint64_t answer) {
+    check_guards(call);
+    if (answer != 0)
+        fail(call, "refused", answer);
+    accepted++;
+}
+
+/* A refusal leaves every buffer as it was. */
+static void check_refused(const char *call, uint64_t answer, uint64_t number) {
+    check_guards(call);
+    if (answer != number)
+        fail(call, "answered by another number", answer);
+    EACH(b) check_same(call, *b);
+    refused++;
+}
+
+#define ACCEPTED(call) (keep(), check_accepted(#call, call))
+#define REFUSED(number, call) (keep(), check_refused(#call, call, number))
+#define EXPECT(value, wanted) ((value) == (uint64_t)(wanted) ? (void)0 : fail(#value, "is not " #wanted " but", value))
+
+static const uint64_t ID = UINT64_C(0x050101010101);
+static const size_t FAR = SIZE_MAX;
+
+#define T words(&table)
+#define SENT words(&sent)
+#define SEEN words(&seen)
+#define FRAME words(&frame)
+
+/* Looking changes no word of the table. */
+static void look(size_t index) {
+    ACCEPTED(card_look(T, index, SEEN));
+    check_same("card_look", &table);
+    for (int i = CARD_SEEN_INBOX + 1; i < CARD_SEEN_WORDS; i++)
+        EXPECT(SEEN[i], 0);
+}
+
+static void while_off(void) {
+    card_new(T);
+    check_guards("card_new");
+    REFUSED(CARD_REFUSED_OFF, card_send(T, 0, SENT));
+    REFUSED(CARD_REFUSED_OFF, card_fail(T, 0));
+    REFUSED(CARD_REFUSED_OFF, card_deliver(T, 0));
+    REFUSED(CARD_REFUSED_OFF, card_message(T, 0, 0xFFFF, 255, 0));
+    REFUSED(CARD_REFUSED_OFF, card_enquiry(T, 0, 255, 0));
+    REFUSED(CARD_REFUSED_OFF, card_release(T, 0));
+    REFUSED(CARD_REFUSED_INBOX_EMPTY, card_inbox(T, 0, 0, FRAME));
+    ACCEPTED(card_foreign(T, 2, 0x7FF, 8, UINT64_MAX));
+    look(23);
+    for (int i = 0; i < CARD_SEEN_WORDS; i++)
+        EXPECT(SEEN[i], 0);
+}
+
+static void beyond_the_last(size_t index) {
+    REFUSED(CARD_REFUSED_BAD_INDEX, card_power_on(T, index, 0));
+    REFUSED(CARD_REFUSED_BAD_INDEX, card_send(T, index, SENT));
+    REFUSED(CARD_REFUSED_BAD_INDEX, card_fail(T, index));
+    REFUSED(CARD_REFUSED_BAD_INDEX, card_deliver(T, index));
+    REFUSED(CARD_REFUSED_BAD_INDEX, card_message(T, index, 0xFFFF, 255, 0));
+    REFUSED(CARD_REFUSED_BAD_INDEX, card_enquiry(T, index, 255, 0));
+    REFUSED(CARD_REFUSED_BAD_INDEX, card_release(T, index));
+    REFUSED(CARD_REFUSED_BAD_INDEX, card_look(T, index, SEEN));
+    REFUSED(CARD_REFUSED_BAD_INDEX, card_inbox(T, index, FAR, FRAME));
+}
+
+static void malformed(void) {
+    REFUSED(CARD_REFUSED_BAD_NODE_ID, card_power_on(T, 0, 0));
+    REFUSED(CARD_REFUSED_BAD_NODE_ID, card_power_on(T, 0, UINT64_C(1) << 48));
+    REFUSED(CARD_REFUSED_BAD_NODE_ID, card_power_on(T, 0, UINT64_MAX));
+    REFUSED(CARD_REFUSED_MALFORMED, card_foreign(T, 3, 0, 0, 0));
+    REFUSED(CARD_REFUSED_MALFORMED, card_foreign(T, 255, 0, 0, 0));
+    REFUSED(CARD_REFUSED_MALFORMED, card_foreign(T, 0, UINT32_MAX, 0, 0));
+    REFUSED(CARD_REFUSED_MALFORMED, card_foreign(T, 0, 0, 9, 0));
+    REFUSED(CARD_REFUSED_MALFORMED, card_foreign(T, 1, 0, 1, 0));
+    REFUSED(CARD_REFUSED_MALFORMED, card_foreign(T, 2, 0x800, 0, 0));
+}
+
+/* The last node of the table, from power-on to Permitted. */
+static void bring_up(size_t index) {
+    ACCEPTED(card_power_on(T, index, ID));
+    ACCEPTED(card_fail(T, index));
+    ACCEPTED(card_power_on(T, index, ID));
+    look(index);
+    EXPECT(SEEN[CARD_SEEN_STATE], CARD_STATE_TESTING);
+    EXPECT(SEEN[CARD_SEEN_ID], ID);
+    EXPECT(SEEN[CARD_SEEN_ALIAS], 0x263);
+    EXPECT(SEEN[CARD_SEEN_DUE], 1);
+    EXPECT(SEEN[CARD_SEEN_DUE_HEADER], 0x17050263);
+    for (int i = 0; i < 4; i++)
+        ACCEPTED(card_send(T, index, SENT));
+    REFUSED(CARD_REFUSED_NOTHING_DUE, card_send(T, index, SENT));
+    REFUSED(CARD_REFUSED_NOTHING_DUE, card_fail(T, index));
+    REFUSED(CARD_REFUSED_NOT_PERMITTED, card_message(T, index, 0, 0, 0));
+    REFUSED(CARD_REFUSED_NOT_PERMITTED, card_enquiry(T, index, 0, 0));
+    REFUSED(CARD_REFUSED_NOT_PERMITTED, card_release(T, index));
+    look(index);
+    EXPECT(SEEN[CARD_SEEN_DUE], 0);
+    for (int i = 0; i < 201; i++)
+        ACCEPTED(card_tick(T));
+    ACCEPTED(card_send(T, index, SENT));
+    EXPECT(SENT[CARD_SENT_HEADER], 0x10700263);
+    EXPECT(SENT[CARD_SENT_LEN], 0);
+    ACCEPTED(card_send(T, index, SENT));
+    EXPECT(SENT[CARD_SENT_LEN], 6);
+    EXPECT(SENT[CARD_SENT_BYTES], ID << 16);
+}
+
+static void orders(size_t index) {
+    REFUSED(CARD_REFUSED_MALFORMED, card_message(T, index, 0x8000, 0, 0));
+    REFUSED(CARD_REFUSED_MALFORMED, card_message(T, index, 0, 9, 0));
+    REFUSED(CARD_REFUSED_MALFORMED, card_enquiry(T, index, 255, 0));
+    ACCEPTED(card_message(T, index, 0x7FFF, 8, UINT64_MAX));
+    REFUSED(CARD_REFUSED_HOST_WAITING, card_message(T, index, 0, 0, 0));
+    REFUSED(CARD_REFUSED_HOST_WAITING, card_enquiry(T, index, 0, 0));
+    look(index);
+    EXPECT(SEEN[CARD_SEEN_DUE_LEN], 8);
+    EXPECT(SEEN[CARD_SEEN_DUE_BYTES], UINT64_MAX);
+    ACCEPTED(card_send(T, index, SENT));
+    ACCEPTED(card_enquiry(T, index, 6, UINT64_MAX));
+    ACCEPTED(card_send(T, index, SENT));
+}
+
+/* 32 frames in every inbox of two nodes; then no more; each at its place; then one less. */
+static void inboxes(size_t index) {
+    ACCEPTED(card_power_on(T, 0, ID + 1));
+    for (uint32_t i = 0; i < CARD_INBOX; i++)
+        ACCEPTED(card_foreign(T, 2, i, 1, UINT64_MAX));
+    REFUSED(CARD_REFUSED_INBOX_FULL, card_foreign(T, 0, 0, 0, 0));
+    REFUSED(CARD_REFUSED_INBOX_FULL, card_send(T, 0, SENT));
+    for (uint64_t i = 0; i < CARD_INBOX; i++) {
+        ACCEPTED(card_inbox(T, index, i, FRAME));
+        check_same("card_inbox", &table);
+        EXPECT(FRAME[CARD_FRAME_KIND], 2);
+        EXPECT(FRAME[CARD_FRAME_HEADER], i);
+        EXPECT(FRAME[CARD_FRAME_LEN], 1);
+        EXPECT(FRAME[CARD_FRAME_BYTES], UINT64_C(0xFF) << 56);
+    }
+    REFUSED(CARD_REFUSED_INBOX_EMPTY, card_inbox(T, index, CARD_INBOX, FRAME));
+    REFUSED(CARD_REFUSED_INBOX_EMPTY, card_inbox(T, index, FAR, FRAME));
+    ACCEPTED(card_deliver(T, index));
+    ACCEPTED(card_inbox(T, index, 0, FRAME));
+    EXPECT(FRAME[CARD_FRAME_HEADER], 1);
+    look(index);
+    EXPECT(SEEN[CARD_SEEN_INBOX], CARD_INBOX - 1);
+    while (card_deliver(T, index) == 0)
+        check_guards("card_deliver");
+    REFUSED(CARD_REFUSED_INBOX_EMPTY, card_deliver(T, index));
+}
+
+static void ends(size_t index) {
+    ACCEPTED(card_release(T, index));
+    look(index);
+    EXPECT(SEEN[CARD_SEEN_STATE], CARD_STATE_LEAVING);
+    EXPECT(SEEN[CARD_SEEN_ALIAS], 0x263);
+    EXPECT(card_is_late(T), 0);
+    for (int i = 0; i < 41; i++)
+        ACCEPTED(card_tick(T));
+    EXPECT(card_is_late(T), 1);
+    while (card_deliver(T, 0) == 0)
+        check_guards("card_deliver");
+    ACCEPTED(card_send(T, index, SENT));
+    look(index);
+    EXPECT(SEEN[CARD_SEEN_STATE], CARD_STATE_RESTING);
+    EXPECT(SEEN[CARD_SEEN_ALIAS], 0);
+}
+
+int main(void) {
+    EACH(b) fill(*b);
+    while_off();
+    beyond_the_last(CARD_NODES);
+    beyond_the_last(FAR);
+    malformed();
+    bring_up(CARD_NODES - 1);
+    orders(CARD_NODES - 1);
+    inboxes(CARD_NODES - 1);
+    ends(CARD_NODES - 1);
+    printf("guards: %u calls accepted and %u refused, no word beside a buffer written, none at all by a refusal\n", accepted, refused);
+    return 0;
+}
