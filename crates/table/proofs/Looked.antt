@@ -11,7 +11,8 @@ use Rattle.node.specs.Rules.{Answer, accepted, refused, refuse, wait, Due, dueO
 use Rattle.node.specs.declared.state.Node.{Node}
 use Rattle.table.specs.Rules.{places, inboxRoom, Place}
 use Rattle.table.specs.Looks.{stateNumber, idSeen, aliasSeen, Seen, seen, looks, frameIn, looksIn}
-use Rattle.table.specs.Words.{frameOf, placeOf, frameFrom, countAt, firstAt, slot, block, nodeAt, itemAt, items, inbox, cellAt, view}
+use Rattle.pack.specs.Words.{frameFrom}
+use Rattle.table.specs.Words.{frameOf, placeOf, countAt, firstAt, slot, block, nodeAt, itemAt, items, inbox, cellAt, view}
 use Rattle.table.specs.WordLaws.{view-at}
 use Rattle.table.proofs.Rings.{length-inbox}
 

@@ -49,7 +49,8 @@ use Rattle.table.specs.Rules.{
   old,
 }
 use Rattle.table.specs.Promise.{around, allAround, AgesTo, OutTo, InLimit, Under, OldestFirst}
-use Rattle.table.specs.Words.{round, Item, item, Cell, frameOf, ageIn, placeOf, agesOf}
+use Rattle.pack.specs.Words.{round}
+use Rattle.table.specs.Words.{Item, item, Cell, frameOf, ageIn, placeOf, agesOf}
 use Rattle.table.specs.Parts.{cellBy, later, laterItem, firstAge, headAge}
 
 -- A PLACE WITH ITS AGES

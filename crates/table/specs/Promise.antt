@@ -10,7 +10,8 @@ use Rattle.node.specs.declared.state.Node.{Node}
 use Rattle.node.specs.declared.timed.Timed.{Timed}
 use Rattle.node.specs.declared.timed.Timed.the-variants.{Untimed, Reply, Amr}
 use Rattle.table.specs.Rules.{places, limit, Command, answer, step, Ages, ages, ageStep, ticks, old}
-use Rattle.table.specs.Words.{round, Item, nodeAt, inbox, agesOf, cellAt, lateOf, slackOf, view, viewAges, Held}
+use Rattle.pack.specs.Words.{round}
+use Rattle.table.specs.Words.{Item, nodeAt, inbox, agesOf, cellAt, lateOf, slackOf, view, viewAges, Held}
 
 -- Ages modulo the round of the clock.
 abbrev pub around : Ages → Ages

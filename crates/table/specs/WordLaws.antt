@@ -10,37 +10,8 @@ use borrow.Author.Tests.{ltb-true, ltb-false, lt-ltb, eqb-true, eqb-false}
 use lib.ListN.{length, getD}
 use Rattle.node.specs.Rules.{timedFor}
 use Rattle.table.specs.Rules.{places, inboxRoom, blank, none}
-use Rattle.table.specs.Words.{
-  Cell,
-  cell,
-  placeOf,
-  agesOf,
-  block,
-  words,
-  countAt,
-  firstAt,
-  stampAt,
-  slot,
-  lateAt,
-  clockAt,
-  slackAt,
-  round,
-  since,
-  timedAge,
-  nodeFrom,
-  nodeAt,
-  itemFrom,
-  itemAt,
-  items,
-  inbox,
-  ageOf,
-  cellAt,
-  slackOf,
-  view,
-  viewAges,
-  Held,
-  At,
-}
+use Rattle.pack.specs.Words.{round, since, timedAge, nodeFrom}
+use Rattle.table.specs.Words.{Cell, cell, placeOf, agesOf, block, words, countAt, firstAt, stampAt, slot, lateAt, clockAt, slackAt, nodeAt, itemFrom, itemAt, items, inbox, ageOf, cellAt, slackOf, view, viewAges, Held, At}
 
 pub lt-or-le : (a b : ℕ) → (a < b) ⊎ (b ≤ a)
 lt-or-le a b = go (ltb a b) refl

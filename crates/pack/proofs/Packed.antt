@@ -1,0 +1,158 @@
+-- What was packed comes back.
+use mathlib.Core.Path.{_≡_, refl, sym, ap, _∙_}
+use Prim.Native.Nat.{ℕ, _+_, _*_, _/_, _%_, _^_, _<_}
+use native.Mathlib.Omega.{arith}
+use mathlib.Core.Bool.{Bool, true, false, cond}
+use lib.Dec.{ltb, eqb}
+use Rattle.node.specs.Rules.{isOff}
+use Rattle.headers.specs.declared.frame.Frame.{Frame}
+use Rattle.node.specs.declared.state.Node.{Node}
+use Rattle.node.specs.declared.state.Phase.the-variants.{Off, Testing, Reserved, Permitted, Leaving, Resting, Silent}
+use Rattle.node.specs.declared.state.Reason.the-variants.{Collision, Release}
+use Rattle.node.specs.declared.state.Host.the-variants.{Message, Enquiry}
+use Rattle.pack.specs.Words.{frameFrom, round, stampIn, phaseFrom, phaseAt, phaseIn, hostFrom, hostAt, StateOf}
+
+-- the lowest digit of a number
+digit : (q s n : ℕ) → s < 2 ^ 8 → q ≡ s + 2 ^ 8 * n → q % 2 ^ 8 ≡ s
+digit q s n h e = omega arith
+
+bit-of : (q s n : ℕ) → s < 2 → q ≡ s + 2 * n → q % 2 ≡ s
+bit-of q s n h e = omega arith
+
+low-8 : (q s : ℕ) → s < 2 ^ 8 → q ≡ s → q % 2 ^ 8 ≡ s
+low-8 q s h e = omega arith
+
+low-19 : (q s : ℕ) → s < 2 ^ 19 → q ≡ s → q % 2 ^ 19 ≡ s
+low-19 q s h e = omega arith
+
+low-32 : (q s : ℕ) → s < 2 ^ 32 → q ≡ s → q % 2 ^ 32 ≡ s
+low-32 q s h e = omega arith
+
+-- frames
+
+module _ (k l h w : ℕ) (hk : k < 2 ^ 8) (hl : l < 2 ^ 8) (hh : h < 2 ^ 32) (e : w ≡ k + 2 ^ 8 * l + 2 ^ 16 * h) where
+  pack-kind : w % 2 ^ 8 ≡ k
+  pack-kind = omega arith
+
+  pack-rest : w / 2 ^ 8 ≡ l + 2 ^ 8 * h
+  pack-rest = omega arith
+
+  pack-header : w / 2 ^ 16 ≡ h
+  pack-header = omega arith
+
+pub frame-back : (f : Frame) (w : ℕ) → f .kind < 2 ^ 8 → f .len < 2 ^ 8 → f .header < 2 ^ 32
+    → w ≡ f .kind + 2 ^ 8 * f .len + 2 ^ 16 * f .header → frameFrom w (f .bytes) ≡ f
+unfolding frameFrom
+frame-back f w hk hl hh e = λ i. record {
+  kind = pack-kind (f .kind) (f .len) (f .header) w hk hl hh e i;
+  header = low-32 (w / 2 ^ 16) (f .header) hh (pack-header (f .kind) (f .len) (f .header) w hk hl hh e) i;
+  len = digit (w / 2 ^ 8) (f .len) (f .header) hl (pack-rest (f .kind) (f .len) (f .header) w hk hl hh e) i;
+  bytes = f .bytes;
+}
+
+-- what stands above the 48 bits does not touch the frame
+high-kind : (w x : ℕ) → (w + 2 ^ 48 * x) % 2 ^ 8 ≡ w % 2 ^ 8
+high-kind w x = omega arith
+
+high-len : (w x : ℕ) → (w + 2 ^ 48 * x) / 2 ^ 8 % 2 ^ 8 ≡ w / 2 ^ 8 % 2 ^ 8
+high-len w x = omega arith
+
+high-header : (w x : ℕ) → (w + 2 ^ 48 * x) / 2 ^ 16 % 2 ^ 32 ≡ w / 2 ^ 16 % 2 ^ 32
+high-header w x = omega arith
+
+frame-high : (f : Frame) (w x r : ℕ) → frameFrom w (f .bytes) ≡ f → r ≡ w + 2 ^ 48 * x → frameFrom r (f .bytes) ≡ f
+unfolding frameFrom
+frame-high f w x r ef e =
+    ap (λ (z : ℕ). frameFrom z (f .bytes)) e
+    ∙ (λ i. record { kind = high-kind w x i; header = high-header w x i; len = high-len w x i; bytes = f .bytes })
+    ∙ ef
+
+-- the stamp above them
+pub stamped : (f : Frame) (w c r : ℕ) → (frameFrom w (f .bytes) ≡ f) × (w < 2 ^ 48) → r ≡ w + 2 ^ 48 * (c % round)
+    → (frameFrom r (f .bytes) ≡ f) × (stampIn r ≡ c % round)
+stamped f w c r (ef, hw) e =
+    let s : r / 2 ^ 48 ≡ c % round = omega arith in
+    (frame-high f w (c % round) r ef e, omega (arith, s))
+
+-- phases
+
+pub phase-testing : (s w x y r : ℕ) → (x ≡ s) × (s < 2 ^ 8) → (y ≡ w) × (w < 2 ^ 8) → r ≡ 1 + 8 * x + 2048 * y → phaseAt r ≡ Testing s w
+unfolding phaseAt
+phase-testing s w x y r (ex, hs) (ey, hw) e =
+    let t : r % 8 ≡ 1 = omega arith in
+    let a′ : r / 8 ≡ s + 2 ^ 8 * w = omega arith in
+    let a : r / 8 % 2 ^ 8 ≡ s = digit (r / 8) s w hs a′ in
+    let b′ : r / 2048 ≡ w = omega arith in
+    let b : r / 2048 % 2 ^ 8 ≡ w = low-8 (r / 2048) w hw b′ in
+    λ i. phaseFrom (t i) (a i) (b i)
+
+-- the host's order
+
+low-16 : (q s : ℕ) → s < 2 ^ 16 → q ≡ s → q % 2 ^ 16 ≡ s
+low-16 q s h e = omega arith
+
+pub host-message : (f l x y r b : ℕ) → (x ≡ l) × (l < 2 ^ 8) → (y ≡ f) × (f < 2 ^ 16) → r ≡ 1 + 2 ^ 8 * x + 2 ^ 16 * y
+    → hostAt r b ≡ Message f l b
+unfolding hostAt
+host-message f l x y r b (ex, hl) (ey, hf) e = λ i. hostFrom (tag i) (low-16 (r / 2 ^ 16) f hf field i) (digit (r / 2 ^ 8) l f hl len i) b
+  where
+    is : r ≡ 1 + 2 ^ 8 * l + 2 ^ 16 * f
+    is = omega arith
+
+    tag : r % 2 ^ 8 ≡ 1
+    tag = pack-kind 1 l f r (omega arith) hl (omega arith) is
+
+    len : r / 2 ^ 8 ≡ l + 2 ^ 8 * f
+    len = pack-rest 1 l f r (omega arith) hl (omega arith) is
+
+    field : r / 2 ^ 16 ≡ f
+    field = pack-header 1 l f r (omega arith) hl (omega arith) is
+
+pub host-enquiry : (l x r b : ℕ) → (x ≡ l) × (l < 2 ^ 8) → r ≡ 2 + 2 ^ 8 * x → hostAt r b ≡ Enquiry l b
+unfolding hostAt
+host-enquiry l x r b (ex, hl) e =
+    let t : r % 2 ^ 8 ≡ 2 = omega arith in
+    let q : r / 2 ^ 8 ≡ l = omega arith in
+    λ i. hostFrom (t i) (r / 2 ^ 16 % 2 ^ 16) (low-8 (r / 2 ^ 8) l hl q i) b
+
+-- the word of alias, phase and flags
+pub state-of : (n : Node) (w a r m o p : ℕ) → (a ≡ n .alias .0) × (n .alias .0 < 2 ^ 16)
+    → (eqb r 1 ≡ n .waiting .reply) × (r < 2) → (eqb m 1 ≡ n .waiting .amd) × (m < 2) → (eqb o 1 ≡ n .waiting .report) × (o < 2)
+    → (phaseAt p ≡ n .phase) × (p < 2 ^ 19)
+    → w ≡ a + 2 ^ 16 * r + 2 ^ 17 * m + 2 ^ 18 * o + 2 ^ 24 * p → StateOf n w
+state-of n w a r m o p (ea, ha) (er, hr) (em, hm) (eo, ho) (ep, hp) ew =
+    let p′ : w / 2 ^ 24 ≡ p = omega arith in
+    let q′ : w / 2 ^ 16 ≡ r + 2 * (m + 2 * o + 2 ^ 7 * p) = omega arith in
+    let s′ : w / 2 ^ 17 ≡ m + 2 * (o + 2 ^ 6 * p) = omega arith in
+    let u′ : w / 2 ^ 18 ≡ o + 2 * (2 ^ 5 * p) = omega arith in
+    let er′ : eqb (w / 2 ^ 16 % 2) 1 ≡ n .waiting .reply = ap (λ (z : ℕ). eqb z 1) (bit-of (w / 2 ^ 16) r (m + 2 * o + 2 ^ 7 * p) hr q′) ∙ er in
+    let em′ : eqb (w / 2 ^ 17 % 2) 1 ≡ n .waiting .amd = ap (λ (z : ℕ). eqb z 1) (bit-of (w / 2 ^ 17) m (o + 2 ^ 6 * p) hm s′) ∙ em in
+    let eo′ : eqb (w / 2 ^ 18 % 2) 1 ≡ n .waiting .report = ap (λ (z : ℕ). eqb z 1) (bit-of (w / 2 ^ 18) o (2 ^ 5 * p) ho u′) ∙ eo in
+    let ea′ : w % 2 ^ 16 ≡ n .alias .0 = omega arith in
+    record {
+      alias = λ i. record { 0 = ea′ i };
+      phase = ap phaseAt (low-19 (w / 2 ^ 24) p hp p′) ∙ ep;
+      waiting = λ i. record { reply = er′ i; amd = em′ i; report = eo′ i; host = n .waiting .host };
+    }
+
+-- the phase's tag alone says whether it is Off
+off-from : (t s w : ℕ) → isOff (phaseFrom t s w) ≡ ltb t 1
+off-from t s w = go (ltb t 1) (ltb t 2) (ltb t 3) (ltb t 4) (ltb t 5) (ltb t 6) (ltb t 7)
+  where
+    go : (a b c d e f g : Bool)
+        → isOff (cond a Off (cond b (Testing s w) (cond c Reserved (cond d Permitted (cond e (Leaving Collision) (cond f (Leaving Release) (cond g Resting Silent)))))))
+        ≡ a
+    go true b c d e f g = refl
+    go false true c d e f g = refl
+    go false false true d e f g = refl
+    go false false false true e f g = refl
+    go false false false false true f g = refl
+    go false false false false false true g = refl
+    go false false false false false false true = refl
+    go false false false false false false false = refl
+
+pub off-in : (w : ℕ) → ltb (w / 2 ^ 24 % 8) 1 ≡ isOff (phaseIn w)
+unfolding phaseAt
+off-in w =
+    let e : w / 2 ^ 24 % 2 ^ 19 % 8 ≡ w / 2 ^ 24 % 8 = omega arith in
+    sym (off-from (w / 2 ^ 24 % 2 ^ 19 % 8) _ _ ∙ ap (λ (z : ℕ). ltb z 1) e)

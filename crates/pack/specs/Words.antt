@@ -1,0 +1,109 @@
+-- What words say of a frame, of a node and of ages, whatever the words are. Where they stand in a segment is said above.
+use mathlib.Core.Path.{_≡_}
+use Prim.Native.Nat.{ℕ, _+_, _-_, _/_, _%_, _^_}
+use mathlib.Core.Bool.{Bool, cond}
+use lib.Dec.{ltb, eqb}
+use Rattle.headers.specs.declared.alias.Alias.{Alias}
+use Rattle.headers.specs.declared.frame.Frame.{Frame}
+use Rattle.node.specs.declared.state.Node.{Node}
+use Rattle.node.specs.declared.state.Phase.{Phase}
+use Rattle.node.specs.declared.state.Phase.the-variants.{Off, Testing, Reserved, Permitted, Leaving, Resting, Silent}
+use Rattle.node.specs.declared.state.Reason.the-variants.{Collision, Release}
+use Rattle.node.specs.declared.state.Waiting.{Waiting}
+use Rattle.node.specs.declared.state.Host.{Host}
+use Rattle.node.specs.declared.state.Host.the-variants.{Empty, Message, Enquiry}
+use Rattle.node.specs.declared.timed.Timed.{Timed}
+use Rattle.node.specs.declared.timed.Timed.the-variants.{Untimed, Reply, Amr}
+
+-- A FRAME
+
+unfoldable pub frameFrom : ℕ → ℕ → Frame
+frameFrom w d = record { kind = w % 2 ^ 8; header = w / 2 ^ 16 % 2 ^ 32; len = w / 2 ^ 8 % 2 ^ 8; bytes = d }
+
+-- A NODE
+
+abbrev pub phaseFrom : (tag sent ticks : ℕ) → Phase
+phaseFrom tag sent ticks =
+    cond (ltb tag 1) Off
+    (cond (ltb tag 2) (Testing sent ticks)
+    (cond (ltb tag 3) Reserved
+    (cond (ltb tag 4) Permitted
+    (cond (ltb tag 5) (Leaving Collision)
+    (cond (ltb tag 6) (Leaving Release)
+    (cond (ltb tag 7) Resting Silent))))))
+
+unfoldable pub phaseAt : ℕ → Phase
+phaseAt w = phaseFrom (w % 8) (w / 8 % 256) (w / 2048 % 256)
+
+abbrev pub hostFrom : (tag field len bytes : ℕ) → Host
+hostFrom tag field len d = cond (ltb tag 1) Empty (cond (ltb tag 2) (Message field len d) (Enquiry len d))
+
+unfoldable pub hostAt : ℕ → ℕ → Host
+hostAt w d = hostFrom (w % 2 ^ 8) (w / 2 ^ 16 % 2 ^ 16) (w / 2 ^ 8 % 2 ^ 8) d
+
+abbrev pub hostBytes : Host → ℕ
+hostBytes Empty = 0
+hostBytes (Message field len bytes) = bytes
+hostBytes (Enquiry len bytes) = bytes
+
+abbrev pub aliasFrom : ℕ → Alias
+aliasFrom w = record { 0 = w % 2 ^ 16 }
+
+abbrev pub phaseIn : ℕ → Phase
+phaseIn w = phaseAt (w / 2 ^ 24 % 2 ^ 19)
+
+abbrev pub replyIn : ℕ → Bool
+replyIn w = eqb (w / 2 ^ 16 % 2) 1
+
+abbrev pub waitingFrom : ℕ → Host → Waiting
+waitingFrom w h = record {
+  reply = replyIn w;
+  amd = eqb (w / 2 ^ 17 % 2) 1;
+  report = eqb (w / 2 ^ 18 % 2) 1;
+  host = h;
+}
+
+-- The node that five words hold.
+abbrev pub nodeFrom : (id generator w h d : ℕ) → Node
+nodeFrom id generator w h d = record {
+  own = record { id = id };
+  alias = aliasFrom w;
+  generator = generator;
+  phase = phaseIn w;
+  waiting = waitingFrom w (hostAt h d);
+}
+
+-- A word that says a node's alias, phase and what waits at it but the host frame.
+pub record StateOf (n : Node) (w : ℕ) : Type 0 where
+  pub alias : aliasFrom w ≡ n .alias
+  pub phase : phaseIn w ≡ n .phase
+  pub waiting : waitingFrom w (n .waiting .host) ≡ n .waiting
+
+-- AGES
+
+-- The clock counts ticks, and goes round. A stamp is what it read when an age began.
+abbrev pub round : ℕ
+round = 2 ^ 16
+
+abbrev pub stampIn : ℕ → ℕ
+stampIn w = w / 2 ^ 48 % round
+
+-- The ticks from a stamp to a reading of the clock.
+abbrev pub since : (clock stamp : ℕ) → ℕ
+since c s = (c % round + round - s % round) % round
+
+-- An age is there where a reply RID or AMR waits.
+abbrev pub timedAge : Timed → ℕ → ℕ
+timedAge Untimed g = 0
+timedAge Reply g = g
+timedAge Amr g = g
+
+-- The stamp after an event: it stays where the same frame still waits for the alias, else an age begins now.
+abbrev pub stampOn : (was is : Timed) → (stamp clock : ℕ) → ℕ
+stampOn Untimed is s c = c
+stampOn Reply Untimed s c = c
+stampOn Reply Reply s c = s
+stampOn Reply Amr s c = c
+stampOn Amr Untimed s c = c
+stampOn Amr Reply s c = c
+stampOn Amr Amr s c = s
