@@ -63,14 +63,17 @@ waitingFrom w h = record {
   host = h;
 }
 
--- The node that five words hold.
-abbrev pub nodeFrom : (id generator w h d : ℕ) → Node
-nodeFrom id generator w h d = record {
-  own = record { id = id };
-  alias = aliasFrom w;
-  generator = generator;
-  phase = phaseIn w;
-  waiting = waitingFrom w (hostAt h d);
+-- How many words hold a node, and the node that they hold, by the number of each.
+abbrev pub nodeWords : ℕ
+nodeWords = 5
+
+abbrev pub nodeFrom : (ℕ → ℕ) → Node
+nodeFrom w = record {
+  own = record { id = w 0 };
+  generator = w 1;
+  alias = aliasFrom (w 2);
+  phase = phaseIn (w 2);
+  waiting = waitingFrom (w 2) (hostAt (w 3) (w 4));
 }
 
 -- A word that says a node's alias, phase and what waits at it but the host frame.

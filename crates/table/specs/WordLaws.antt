@@ -10,6 +10,7 @@ use borrow.Author.Tests.{ltb-true, ltb-false, lt-ltb, eqb-true, eqb-false}
 use lib.ListN.{length, getD}
 use Rattle.node.specs.Rules.{timedFor}
 use Rattle.table.specs.Rules.{places, inboxRoom, blank, none}
+use Rattle.pack.specs.Laws.{node-same}
 use Rattle.pack.specs.Words.{round, since, timedAge, nodeFrom}
 use Rattle.table.specs.Words.{Cell, cell, placeOf, agesOf, block, words, countAt, firstAt, stampAt, slot, lateAt, clockAt, slackAt, nodeAt, itemFrom, itemAt, items, inbox, ageOf, cellAt, slackOf, view, viewAges, Held, At}
 
@@ -63,13 +64,7 @@ inbox-ext t t′ k c e =
 
 pub node-ext : (t t′ : List ℕ) (k : ℕ) → ((q : ℕ) → block * k ≤ q → q < countAt k → getD t′ q 0 ≡ getD t q 0) → nodeAt t′ k ≡ nodeAt t k
 unfolding nodeAt
-node-ext t t′ k e =
-    λ i. nodeFrom
-    (e (block * k) (omega arith) (omega arith) i)
-    (e (block * k + 1) (omega arith) (omega arith) i)
-    (e (block * k + 2) (omega arith) (omega arith) i)
-    (e (block * k + 3) (omega arith) (omega arith) i)
-    (e (block * k + 4) (omega arith) (omega arith) i)
+node-ext t t′ k e = node-same _ _ (λ j h. e (block * k + j) (omega arith) (omega arith))
 
 -- the age goes by the node, the clock and the stamp
 pub age-ext : (t t′ : List ℕ) (k : ℕ) → nodeAt t′ k ≡ nodeAt t k → getD t′ clockAt 0 ≡ getD t clockAt 0
