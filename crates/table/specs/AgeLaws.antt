@@ -9,7 +9,7 @@ use native.Mathlib.Omega.{arith}
 use native.Mathlib.Nat.{not-suc-le-zero}
 use lib.Dec.{ltb, eqb}
 use borrow.Author.Tests.{le-ltb, ltb-false, eq-eqb, eqb-true, eqb-false}
-use Rattle.node.specs.Rules.{Answer, accepted, refused, Value, uses, timedAt, Held, held, heldOf, timedIn, timedFor}
+use Rattle.node.specs.Rules.{Answer, accepted, refused, Value, uses, timedAt, HeldAlias, held, heldOf, timedIn, timedFor}
 use Rattle.node.specs.Laws.{neither}
 use Rattle.node.specs.Events.{timed-other}
 use Rattle.headers.specs.declared.frame.Frame.{Frame}
@@ -268,7 +268,7 @@ module _ (i o : ℕ) where
       go true k = both-false _ _ (own (eqb al al) (eq-eqb al al refl) k) refl
       go false k = refl
 
-  test-held : (a : ℕ) (hs : List Held) (w : ℕ → ℕ) → heldOld i o hs w ≡ false → OutTo o (timedIn hs a) (w a)
+  test-held : (a : ℕ) (hs : List HeldAlias) (w : ℕ → ℕ) → heldOld i o hs w ≡ false → OutTo o (timedIn hs a) (w a)
   test-held a [] w e = tt
   test-held a (h ∷ hs) w e =
       let c = neither (timedOld i o (h .timed) (w (h .alias))) (heldOld i o hs w) e in

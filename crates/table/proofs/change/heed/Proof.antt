@@ -13,4 +13,4 @@ heed-spec =
     (λ c. λ h e. unheard-at _ _ _ _ h (c .before .before .before .pre) e (ap isNothing (sym (c .before .before .concern .ensures)) ∙ sym (c .before .is-nothing .ensures) ∙ c .if1 .taken))
     (λ c κs. search needs)
     (λ c κs. search needs)
-    (λ c. λ h e. heard-at _ _ _ _ _ _ _ (c .before .before .before .before .before .concern .ensures) (c .before .before .hears .ensures) (c .becomes .ensures h e)))
+    (λ c. λ h e. heard-at _ _ _ _ _ _ _ (c .before .before .before .before .before .concern .ensures) (c .before .before .takes .ensures) (c .becomes .ensures h e)))
