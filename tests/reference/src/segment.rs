@@ -58,23 +58,23 @@ impl Segment {
     #[inline]
     pub fn carry_out(&mut self, command: &Command) -> Answer {
         match *command {
-            Command::PowerOn { index, id } => self.power_on(index, id)?,
-            Command::Send { index } => return self.send(index).map(Some),
-            Command::FailedSend { index } => self.failed_send(index)?,
-            Command::Deliver { index } => self.deliver(index)?,
+            Command::PowerOn { index, id } => self.power_on(index.into(), id)?,
+            Command::Send { index } => return self.send(index.into()).map(Some),
+            Command::FailedSend { index } => self.failed_send(index.into())?,
+            Command::Deliver { index } => self.deliver(index.into())?,
             Command::Tick => self.tick(),
             Command::Foreign { ref frame } => self.foreign(frame)?,
             Command::Message { index, field, len, data } => {
-                self.message(index, field, len, data)?
+                self.message(index.into(), field, len, data)?
             }
-            Command::Enquiry { index, len, id } => self.enquiry(index, len, id)?,
-            Command::Release { index } => self.release(index)?,
+            Command::Enquiry { index, len, id } => self.enquiry(index.into(), len, id)?,
+            Command::Release { index } => self.release(index.into())?,
         }
         Ok(None)
     }
 
     /// 1, 3.
-    pub fn power_on(&mut self, index: u8, id: u64) -> Result<(), Refusal> {
+    pub fn power_on(&mut self, index: usize, id: u64) -> Result<(), Refusal> {
         let place = place(index)?;
         self.nodes[place] = Node::power_on(id)?;
         self.inboxes[place].clear();
@@ -84,7 +84,7 @@ impl Segment {
     }
 
     /// 1, 2, 4, 5.
-    pub fn send(&mut self, index: u8) -> Result<Frame, Refusal> {
+    pub fn send(&mut self, index: usize) -> Result<Frame, Refusal> {
         let place = place(index)?;
         let frame = self.nodes[place].due_or_refusal()?;
         if self.full & !bit(place) != 0 {
@@ -96,12 +96,12 @@ impl Segment {
     }
 
     /// 1, 2, 4.
-    pub fn failed_send(&mut self, index: u8) -> Result<(), Refusal> {
+    pub fn failed_send(&mut self, index: usize) -> Result<(), Refusal> {
         self.nodes[place(index)?].fails()
     }
 
     /// 1, 2, 6.
-    pub fn deliver(&mut self, index: u8) -> Result<(), Refusal> {
+    pub fn deliver(&mut self, index: usize) -> Result<(), Refusal> {
         let place = place(index)?;
         if self.nodes[place].is_off() {
             return Err(Refusal::Off);
@@ -136,7 +136,7 @@ impl Segment {
     /// 1, 2, 9, 7, 8.
     pub fn message(
         &mut self,
-        index: u8,
+        index: usize,
         field: u16,
         len: u8,
         data: [u8; 8],
@@ -145,12 +145,12 @@ impl Segment {
     }
 
     /// 1, 2, 9, 7, 8.
-    pub fn enquiry(&mut self, index: u8, len: u8, id: [u8; 6]) -> Result<(), Refusal> {
+    pub fn enquiry(&mut self, index: usize, len: u8, id: [u8; 6]) -> Result<(), Refusal> {
         self.nodes[place(index)?].enquiry(len, id)
     }
 
     /// 1, 2, 7.
-    pub fn release(&mut self, index: u8) -> Result<(), Refusal> {
+    pub fn release(&mut self, index: usize) -> Result<(), Refusal> {
         let place = place(index)?;
         self.change(place, Node::release)
     }
@@ -235,10 +235,9 @@ impl Segment {
 
 /// The place of an index; 1 above 23.
 #[inline]
-fn place(index: u8) -> Result<usize, Refusal> {
-    let place = usize::from(index);
-    if place < Segment::PLACES {
-        Ok(place)
+fn place(index: usize) -> Result<usize, Refusal> {
+    if index < Segment::PLACES {
+        Ok(index)
     } else {
         Err(Refusal::NoSuchIndex)
     }

@@ -179,13 +179,20 @@ pub fn impossible(row: Row, event: Event) -> Option<&'static str> {
     }
 }
 
+/// The cells that can be reached.
+pub fn reachable() -> impl Iterator<Item = (Row, Event)> {
+    let rows = Row::all().into_iter();
+    let cells = rows.flat_map(|row| Event::all().into_iter().map(move |event| (row, event)));
+    cells.filter(|&(row, event)| impossible(row, event).is_none())
+}
+
 /// How often each cell was shown and each mark was met.
 #[derive(Clone, Default)]
 pub struct Coverage {
     pub cells: BTreeMap<(Row, Event), u64>,
     pub marks: Marks,
-    /// All cells met, shown or not.
-    met: BTreeSet<(Row, Event)>,
+    /// How often each cell was met, shown or not.
+    pub met: BTreeMap<(Row, Event), u64>,
     /// For each place, the cells that its next sends will show.
     pending: [BTreeSet<(Row, Event)>; Segment::PLACES],
 }
@@ -298,7 +305,7 @@ impl Coverage {
 
     /// A cell shows itself at once, or waits for the node's next sends.
     fn meet(&mut self, place: usize, cell: (Row, Event)) {
-        self.met.insert(cell);
+        *self.met.entry(cell).or_default() += 1;
         let at_once = match cell {
             (_, Event::Answer(2, 4 | 5)) => true,
             (Row::Off, event) => event != Event::Answer(1, 0),
@@ -311,20 +318,19 @@ impl Coverage {
         }
     }
 
-    /// The cells that can be reached and were not.
+    /// The cells that can be reached and were not shown.
     pub fn missing_cells(&self) -> Vec<(Row, Event)> {
-        let cells = Row::all()
-            .into_iter()
-            .flat_map(|row| Event::all().into_iter().map(move |event| (row, event)));
-        cells
-            .filter(|&(row, event)| impossible(row, event).is_none())
-            .filter(|cell| !self.cells.contains_key(cell))
-            .collect()
+        reachable().filter(|cell| !self.cells.contains_key(cell)).collect()
+    }
+
+    /// The cells that can be reached and were not even met.
+    pub fn unmet_cells(&self) -> Vec<(Row, Event)> {
+        reachable().filter(|cell| !self.met.contains_key(cell)).collect()
     }
 
     /// The cells that were met though they are called impossible, with the reason that is given for it.
     pub fn impossible_cells(&self) -> Vec<(Row, Event, &'static str)> {
-        let cells = self.met.iter();
+        let cells = self.met.keys();
         cells.filter_map(|&(row, event)| Some((row, event, impossible(row, event)?))).collect()
     }
 
@@ -332,7 +338,7 @@ impl Coverage {
     pub fn unlisted_cells(&self) -> Vec<(Row, Event)> {
         let (rows, events) = (Row::all(), Event::all());
         let listed = |(row, event): &(Row, Event)| rows.contains(row) && events.contains(event);
-        self.met.iter().filter(|cell| !listed(cell)).copied().collect()
+        self.met.keys().filter(|cell| !listed(cell)).copied().collect()
     }
 
     pub fn missing_marks(&self) -> Vec<Mark> {

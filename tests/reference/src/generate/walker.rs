@@ -89,6 +89,13 @@ pub fn walk(rng: &mut Prng, temper: Temper) -> Vec<u8> {
     walker.draft.bytes
 }
 
+/// A script of this temper that goes on from what a draft has come to.
+pub fn walk_on(rng: &mut Prng, temper: Temper, draft: Draft) -> Vec<u8> {
+    let mut walker = Walker { draft, ..Walker::new(rng, temper) };
+    walker.steps();
+    walker.draft.bytes
+}
+
 impl<'a> Walker<'a> {
     pub fn new(rng: &'a mut Prng, temper: Temper) -> Walker<'a> {
         Walker {
@@ -108,6 +115,10 @@ impl<'a> Walker<'a> {
                 self.power_on(index);
             }
         }
+        self.steps();
+    }
+
+    fn steps(&mut self) {
         while self.commands < self.temper.commands {
             self.step();
         }
