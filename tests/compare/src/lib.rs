@@ -1,5 +1,6 @@
-//! The proved library behind a safe function, and what the comparison and the benchmark share.
+//! The proved libraries behind safe functions, and what the comparisons and the benchmark share.
 
+pub mod card;
 pub mod setting;
 pub mod shrink;
 
@@ -9,6 +10,9 @@ extern "C" {
     /// crates/script_api: the whole output of a script, and how many bytes of it the buffer now holds.
     fn script_run(script: *const u8, script_len: usize, out: *mut u8, out_len: usize) -> usize;
 }
+
+/// The proved libraries count ticks modulo this number: some lists begin with so many ticks that the count goes round in them.
+pub const ROUND: usize = 65_536;
 
 /// More than the longest line of a command and its share of the last word, for each byte of a script.
 const LINE_MOST: usize = 64;

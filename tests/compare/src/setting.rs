@@ -1,4 +1,4 @@
-//! Numbers that are given to the programs by variables of the environment: SEED, SCRIPTS, REPEATS.
+//! Numbers that are given to the programs by variables of the environment: SEED, SCRIPTS, OPERATIONS, REPEATS.
 
 use std::ffi::OsStr;
 use std::process::exit;
@@ -10,6 +10,12 @@ pub fn setting(name: &str, least: u64, otherwise: u64) -> u64 {
         eprintln!("{name}={}: {name} is {right}", given.to_string_lossy());
         exit(2);
     })
+}
+
+/// Another number each time, where none is given by SEED.
+pub fn fresh_seed() -> u64 {
+    let now = std::time::SystemTime::now().duration_since(std::time::UNIX_EPOCH);
+    now.map_or(1, |since| since.as_nanos() as u64)
 }
 
 /// The number that a text is, or what would be right in its place.

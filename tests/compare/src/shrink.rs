@@ -1,4 +1,4 @@
-//! Makes a script that fails smaller by whole commands, and writes it as the hex that `./run` takes.
+//! Makes a list that fails smaller, a script by whole commands; and writes a script as the hex that `./run` takes.
 
 use reference::Command;
 
@@ -14,28 +14,32 @@ fn pieces(script: &[u8]) -> Vec<&[u8]> {
     pieces
 }
 
-/// Leaves out as many pieces as it can while the script still fails: without any one of those left, it does not.
+/// Leaves out as many commands as it can while the script still fails: without any one of those left, it does not.
 pub fn shrink(script: &[u8], mut fails: impl FnMut(&[u8]) -> bool) -> Vec<u8> {
-    let mut pieces = pieces(script);
-    let mut part = pieces.len();
+    fewest(pieces(script), |less| fails(&less.concat())).concat()
+}
+
+/// Leaves out as many items as it can while the list still fails: without any one of those left, it does not.
+pub fn fewest<T: Clone>(mut items: Vec<T>, mut fails: impl FnMut(&[T]) -> bool) -> Vec<T> {
+    let mut part = items.len();
     while part > 0 {
-        let before = pieces.len();
+        let before = items.len();
         let mut at = 0;
-        while at < pieces.len() {
-            let end = pieces.len().min(at + part);
-            let less = [&pieces[..at], &pieces[end..]].concat();
-            if fails(&less.concat()) {
-                pieces = less;
+        while at < items.len() {
+            let end = items.len().min(at + part);
+            let less = [&items[..at], &items[end..]].concat();
+            if fails(&less) {
+                items = less;
             } else {
                 at = end;
             }
         }
-        // Single pieces are tried until none of them can go.
-        if part > 1 || pieces.len() == before {
+        // Single items are tried until none of them can go.
+        if part > 1 || items.len() == before {
             part /= 2;
         }
     }
-    pieces.concat()
+    items
 }
 
 /// A script in hex, a command to a line.

@@ -1,15 +1,12 @@
 //! Compares both implementations on fresh random scripts: long and short, valid and damaged. SEED and SCRIPTS may be given.
 
-use compare::setting::setting;
+use compare::setting::{fresh_seed, setting};
 use compare::shrink::{hex, shrink};
-use compare::{claim_held, Proved};
+use compare::{claim_held, Proved, ROUND};
 use reference::generate::prng::Prng;
 use reference::generate::walker::{walk, Temper};
 use reference::Command;
 use std::process::exit;
-
-/// The proved library counts ticks modulo this number: some scripts begin with so many ticks that the count goes round in them.
-const ROUND: usize = 65_536;
 
 fn main() {
     let seed = setting("SEED", 0, fresh_seed());
@@ -30,11 +27,6 @@ fn main() {
         kept += usize::from(proved.run(&script).ends_with(b"kept\n"));
     }
     println!("compare: {scripts} scripts agree, SEED={seed}: {bytes} bytes, {damaged} damaged, {kept} kept");
-}
-
-fn fresh_seed() -> u64 {
-    let now = std::time::SystemTime::now().duration_since(std::time::UNIX_EPOCH);
-    now.map_or(1, |since| since.as_nanos() as u64)
 }
 
 /// A script, and whether it was damaged after it was made.

@@ -1,0 +1,54 @@
+//! How often each state of a node met each event, drawn as a table.
+
+use reference::generate::coverage::{reachable, Coverage, Event, Row};
+use std::collections::{BTreeMap, BTreeSet};
+use std::fmt::Write;
+
+const STATES: [&str; 7] = ["Off", "Testing", "Reserved", "Permitted", "Leaving", "Resting", "Silent"];
+
+const COMMANDS: [&str; 9] =
+    ["power-on", "send", "failed send", "deliver", "tick", "foreign frame", "message", "enquiry", "release"];
+
+fn column(row: Row) -> usize {
+    match row {
+        Row::Off => 0,
+        Row::Check(_) | Row::Wait | Row::Reserve => 1,
+        Row::Reserved { .. } => 2,
+        Row::Permitted { .. } => 3,
+        Row::Leaving { .. } => 4,
+        Row::Resting => 5,
+        Row::Silent => 6,
+    }
+}
+
+fn label(event: Event) -> String {
+    match event {
+        Event::Answer(byte, 0) => COMMANDS[usize::from(byte) - 1].to_string(),
+        Event::Answer(byte, refusal) => format!("{}, refused {refusal}", COMMANDS[usize::from(byte) - 1]),
+        Event::EnquiryTaken { all } => format!("enquiry for {}", if all { "all" } else { "one" }),
+        Event::Deliver(case) => format!("deliver {case:?}"),
+        Event::DeliverBit28Clear(heed) => format!("deliver {heed:?}, bit 28 at 0"),
+        Event::DeliverAliasZero(heed) => format!("deliver {heed:?}, alias 0"),
+        Event::BusFrame => "another node's frame comes".to_string(),
+        Event::ForeignFrame => "a foreign frame comes".to_string(),
+    }
+}
+
+/// A line for each event, a column for each state: how often they met, `-` where they cannot.
+pub fn table(cover: &Coverage) -> String {
+    let mut counts: BTreeMap<(Event, usize), u64> = BTreeMap::new();
+    for (row, event) in reachable() {
+        *counts.entry((event, column(row))).or_default() += cover.met.get(&(row, event)).unwrap_or(&0);
+    }
+    let mut text = format!("{:<28}", "event");
+    STATES.iter().for_each(|state| write!(text, "{state:>11}").expect("a string takes it"));
+    let events: BTreeSet<Event> = counts.keys().map(|(event, _)| *event).collect();
+    for event in events {
+        write!(text, "\n{:<28}", label(event)).expect("a string takes it");
+        for state in 0..STATES.len() {
+            let count = counts.get(&(event, state)).map_or("-".to_string(), u64::to_string);
+            write!(text, "{count:>11}").expect("a string takes it");
+        }
+    }
+    text
+}

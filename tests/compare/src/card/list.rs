@@ -1,0 +1,115 @@
+//! Lists of operations: the commands of a script, and among them operations with operands that no script can carry.
+
+use super::operation::Operation;
+use crate::ROUND;
+use reference::generate::draft::Draft;
+use reference::generate::prng::Prng;
+use reference::generate::walker::{walk, walk_on, Temper};
+use reference::{Command, Segment};
+
+/// The whole commands of a script.
+pub fn of_script(script: &[u8]) -> Vec<Operation> {
+    let mut rest = script;
+    std::iter::from_fn(|| {
+        let (command, after) = Command::read(rest).ok()?;
+        rest = after;
+        Some(command.into())
+    })
+    .collect()
+}
+
+/// A list by chance with far operands among the others. A few begin with ticks until the proved clock goes round.
+pub fn random(rng: &mut Prng) -> Vec<Operation> {
+    let script = script(rng);
+    let mut list = Vec::new();
+    if rng.below(2_000) == 0 {
+        list.resize(rng.between(ROUND - 250, ROUND), Operation::Tick);
+    }
+    for operation in of_script(&script) {
+        if rng.percent(8) {
+            list.push(far(rng));
+        }
+        list.push(operation);
+    }
+    list
+}
+
+/// A script, long or short, from all nodes Off or from some that are Permitted.
+fn script(rng: &mut Prng) -> Vec<u8> {
+    let commands = match rng.below(40) {
+        0 => 6_000,
+        1..=9 => 10,
+        10..=19 => 250,
+        _ => 1_000,
+    };
+    let temper = Temper::random(rng, commands);
+    if temper.nodes == Segment::PLACES || rng.percent(30) {
+        return walk(rng, temper);
+    }
+    let up = Draft::permitted(&temper.node_ids);
+    walk_on(rng, temper, up)
+}
+
+/// An index: of a node, just behind the last, or far from it.
+fn index(rng: &mut Prng) -> usize {
+    let far = rng.number() as usize | 1 << rng.between(8, 63);
+    let node = rng.below(Segment::PLACES);
+    rng.pick(&[node, node, node, Segment::PLACES, 255, 256, 1 << 32, usize::MAX, far])
+}
+
+/// A length: within the frame, just above eight, or far from it.
+fn len(rng: &mut Prng) -> u8 {
+    let any = rng.byte();
+    rng.pick(&[0, 6, 7, 8, 9, 255, any])
+}
+
+/// An operation whose operands go beyond what is accepted, or beyond what a script can carry; some are accepted nevertheless.
+fn far(rng: &mut Prng) -> Operation {
+    let (index, len, bytes) = (index(rng), len(rng), rng.number());
+    match rng.below(8) {
+        0 => Operation::PowerOn { index, id: rng.pick(&[0, 1 << 48, u64::MAX, bytes | 1 << 48, bytes | 1 << 63]) },
+        1 => Operation::Send { index },
+        2 => Operation::Fail { index },
+        3 => Operation::Deliver { index },
+        4 => {
+            let header = rng.number() as u32;
+            let header = rng.pick(&[header, header & 0x1FFF_FFFF, header & 0xFFF, 1 << 29, 0x7FF, 0x800, u32::MAX]);
+            Operation::Foreign { kind: rng.pick(&[0, 1, 2, 3, 255, bytes as u8]), header, len, bytes }
+        }
+        5 => Operation::Message { index, field: rng.pick(&[0, 0x7FFF, 0x8000, 0xFFFF, bytes as u16]), len, bytes },
+        6 => Operation::Enquiry { index, len, bytes },
+        _ => Operation::Release { index },
+    }
+}
+
+#[cfg(test)]
+mod tests {
+    use super::*;
+
+    #[test]
+    fn a_script_and_its_operations_say_the_same() {
+        for seed in 0..50 {
+            let mut rng = Prng::new(seed);
+            let temper = Temper::random(&mut rng, 250);
+            let script = walk(&mut rng, temper);
+            let mut again = Vec::new();
+            for operation in of_script(&script) {
+                operation.command().expect("a script can say it").write(&mut again);
+            }
+            assert_eq!(again, script);
+        }
+    }
+
+    #[test]
+    fn far_operands_are_among_the_others() {
+        let list: Vec<Operation> = (0..100).flat_map(|seed| random(&mut Prng::new(seed))).collect();
+        let unsaid = list.iter().filter(|operation| operation.command().is_none()).count();
+        assert!(unsaid * 50 > list.len(), "{unsaid} of {}", list.len());
+        let met = |wanted: fn(&Operation) -> bool| assert!(list.iter().any(wanted));
+        met(|operation| matches!(operation, Operation::Send { index: usize::MAX }));
+        met(|operation| matches!(operation, Operation::PowerOn { index: 0..=23, id } if *id > u64::MAX / 2));
+        met(|operation| matches!(operation, Operation::Message { index: 0..=23, len: 255, .. }));
+        met(|operation| matches!(operation, Operation::Enquiry { len: 6, bytes, .. } if bytes & 0xFFFF != 0));
+        met(|operation| matches!(operation, Operation::Foreign { header: u32::MAX, .. }));
+    }
+}
