@@ -10,7 +10,7 @@ ghost use Rattle.node.specs.Answers.{dueAs};
 ghost use Rattle.table.specs.Looks.{looks, looksIn};
 ghost use Rattle.table.specs.Answers.{seenAs};
 ghost use Rattle.table.specs.Words.{view};
-ghost use Rattle.card_api.specs.Written.{Wrote};
+ghost use Rattle.card_api.specs.Out.{Out};
 ghost use Rattle.card_api.specs.Looks.{dueMark, dueFrame, seenWords, frameWords};
 
 // 1 where a frame is due.
@@ -63,7 +63,7 @@ fn write_seen(seen: &mut [u64; 12], s: Seen)
 // State, Node ID, alias; whether a frame is due, its header, length and data; how many frames the inbox has; four words 0.
 #[no_mangle]
 pub extern "C" fn card_look(table: &[u64; WORDS], index: usize, seen: &mut [u64; 12]) -> u64
-    ensures { λ r. ⌜ Wrote seenWords (looks (view (now (table .entry))) index) r (now (seen .entry)) (now (seen .exit)) ⌝ }
+    ensures { λ r. ⌜ Out seenWords (looks (view (now (table .entry))) index) r (now (seen .entry)) (now (seen .exit)) ⌝ }
 {
     match table::look::look(table, index) {
         Looked::Seen(s) => {
@@ -82,7 +82,7 @@ pub extern "C" fn card_inbox(
     place: usize,
     frame: &mut [u64; 4],
 ) -> u64
-    ensures { λ r. ⌜ Wrote frameWords (looksIn (view (now (table .entry))) index place) r (now (frame .entry)) (now (frame .exit)) ⌝ }
+    ensures { λ r. ⌜ Out frameWords (looksIn (view (now (table .entry))) index place) r (now (frame .entry)) (now (frame .exit)) ⌝ }
 {
     match table::look::inbox(table, index, place) {
         Found::Frame(f) => {

@@ -1,6 +1,6 @@
-use mathlib.Core.Path.{sym, ap, _∙_}
+use mathlib.Core.Path.{refl, sym, ap, _∙_}
 use Rattle.table.specs.Answers.{lookAs}
-use Rattle.card_api.specs.Written.{wrote, wrote-none}
+use Rattle.card_api.specs.Out.{out-as}
 use borrow.Author.Needs.{needs}
 use Rattle.card_api.proofs.look.card_look.Statement.{statement}
 use Rattle.card_api.proofs.look.card_look.Tie as tie
@@ -14,5 +14,5 @@ card-look-spec =
     (λ c. search needs)
     (λ c κs. search needs)
     (λ c. search needs)
-    (λ c. wrote _ (ap lookAs (sym (c .before .before .before .s .given .1)) ∙ c .before .before .before .before .before .look .ensures) (c .write-seen .ensures))
-    (λ c. wrote-none _ _ (ap lookAs (sym (c .before .before .r .given .1)) ∙ c .before .before .before .before .look .ensures) (c .number .ensures)))
+    (λ c. out-as _ (ap lookAs (sym (c .before .before .before .s .given .1)) ∙ c .before .before .before .before .before .look .ensures) (record { number = refl; out = c .write-seen .ensures }))
+    (λ c. out-as _ (ap lookAs (sym (c .before .before .r .given .1)) ∙ c .before .before .before .before .look .ensures) (record { number = c .number .ensures; out = refl })))
