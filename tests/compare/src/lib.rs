@@ -1,6 +1,6 @@
 //! The proved libraries behind safe functions, and what the comparisons and the benchmark share.
 
-pub mod card;
+pub mod operations;
 pub mod setting;
 pub mod shrink;
 

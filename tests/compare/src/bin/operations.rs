@@ -1,9 +1,9 @@
 //! Compares the operations for C with the other implementation: OPERATIONS commands, and all that is seen after each of them.
 //! First the lists of the stored corpus, which meet every state with every event, then others by chance. SEED may be given.
 
-use compare::card::operation::Operation;
-use compare::card::pair::compare;
-use compare::card::{cover, list};
+use compare::operations::operation::Operation;
+use compare::operations::pair::compare;
+use compare::operations::{cover, list};
 use compare::setting::{fresh_seed, setting};
 use compare::shrink::fewest;
 use reference::generate::corpus;
