@@ -1,1 +1,3 @@
+pub mod Hits
 pub mod Places
+pub mod Given

@@ -1,142 +1,138 @@
--- A map's places and its entries: their number, the search through them, and the pass that removes some.
-use mathlib.Core.Path.{_≡_, refl, sym, ap, subst, _∙_}
-use mathlib.Core.Bool.{Bool, true, false, cond}
+-- A map's words and its entries: the word of an entry, the search, the pass that removes some, and the count that is stored.
+use mathlib.Core.Path.{_≡_, sym, ap, subst, _∙_}
+use mathlib.Core.Bool.{Bool, true, false}
 use mathlib.Core.List.{List, [], _∷_, _++_, map, append-nil}
-use Prim.Native.Nat.{ℕ, suc, _+_, _<_, _≤_}
+use Prim.Native.Nat.{ℕ, _+_, _*_, _/_, _%_, _^_, _<_, _≤_, min}
 use native.Mathlib.Numerals.{add-one}
 use native.Mathlib.Omega.{arith}
-use lib.ListN.{length, getD, set, take, drop, length-set, length-take}
-use lib.Seq.{length-take-le, take-all, take-suc, drop-cons, getD-take, getD-drop, drop-drop, drop-set-lt, take-suc-set, take-length, drop-length}
-use borrow.Author.Tests.{le-leb, lt-leb}
-use Rattle.alias_map.specs.Rules.{Answer, accepted, refused, room, hasEither, without, add, first}
-use Rattle.alias_map.specs.Answers.{entriesOf, Gives}
+use lib.Dec.{eqb}
+use lib.ListN.{length, getD, set, take, drop, length-set, length-map, List·getD-map}
+use lib.Seq.{length-take-le, take-suc, take-set-le, getD-set-same, getD-take, getD-drop, drop-drop, drop-set-lt, take-suc-set}
+use borrow.Author.Tests.{eqb-true, eqb-false}
+use Rattle.alias_map.specs.Rules.{room, without}
+use Rattle.alias_map.specs.Words.{words, entryFrom, entryAt, entriesIn, countOf, entriesOf}
+use Rattle.alias_map.specs.Answers.{keyAs}
+use Rattle.alias_map.specs.Parts.{Before, Found, Kept}
 use Rattle.alias_map.specs.Laws.{without-append}
 use Rattle.alias_map.specs.declared.entry.Entry.{Entry}
-use Rattle.alias_map.specs.declared.map.Map.{Map}
-use Rattle.alias_map.specs.declared.answer.Noted.{Noted}
+use Rattle.alias_map.specs.declared.entry.Key.{Key}
+use Rattle.alias_map.proofs.Hits.{None, without-none}
 
--- a list is as long as what is made of each of its elements
-pub unmapped : (A B : Type 0) (f : A → B) (l : List A) (n : ℕ) → length (map f l) ≡ n → length l ≡ n
-unmapped A B f l n e = sym (go l) ∙ e
-  where
-    go : (l : List A) → length (map f l) ≡ length l
-    go [] = refl
-    go (x ∷ l) = ap suc (go l)
+-- THE WORD OF AN ENTRY: alias and Node ID come back
 
-module _ (m : Map) (long : length (m .entries) ≡ room) where
-  pub len-few : m .count < room → (m .count ≡ length (entriesOf m)) × (m .count ≤ room)
-  unfolding entriesOf
-  len-few h = (sym (length-take-le (m .count) (m .entries) (omega arith)), omega arith)
+module _ (a i : ℕ) where
+  word-id : (a % 2 ^ 12 * 2 ^ 48 + i % 2 ^ 48) % 2 ^ 48 ≡ i % 2 ^ 48
+  word-id = omega arith
 
-  pub len-full : room ≤ m .count → (room ≡ length (entriesOf m)) × (room ≤ room)
-  unfolding entriesOf
-  len-full h = (sym (ap length (take-all (m .count) (m .entries) (omega arith)) ∙ long), omega arith)
+  word-alias : (a % 2 ^ 12 * 2 ^ 48 + i % 2 ^ 48) / 2 ^ 48 % 2 ^ 12 ≡ a % 2 ^ 12
+  word-alias = omega arith
 
--- an entry stands at its place
-pub entry-at : (m : Map) (i : ℕ) (d : Entry) → i < length (entriesOf m) → getD (entriesOf m) i d ≡ getD (m .entries) i d
+  pub word-back : entryFrom (a % 2 ^ 12 * 2 ^ 48 + i % 2 ^ 48) ≡ record { alias = record { 0 = a % 2 ^ 12 }; id = i % 2 ^ 48 }
+  unfolding entryFrom
+  word-back = λ j. record { alias = record { 0 = word-alias j }; id = word-id j }
+
+-- THE FIRST WORDS AS ENTRIES
+
+map-last : (xs : List ℕ) (x : ℕ) → map entryFrom (xs ++ x ∷ []) ≡ map entryFrom xs ++ entryFrom x ∷ []
+map-last [] x = λ j. entryFrom x ∷ []
+map-last (y ∷ xs) x = ap (λ (l : List Entry). entryFrom y ∷ l) (map-last xs x)
+
+module _ (t : List ℕ) (n : ℕ) where
+  pub entries-length : n ≤ length t → length (entriesIn n t) ≡ n
+  entries-length h = length-map (take n t) entryFrom ∙ length-take-le n t h
+
+  pub entry-at : (k : ℕ) → k < n → getD (entriesIn n t) k (entryFrom 0) ≡ entryAt t k
+  entry-at k h = List·getD-map entryFrom (take n t) k 0 ∙ ap entryFrom (getD-take n t k 0 h)
+
+  pub entries-more : n < length t → entriesIn (n + 1) t ≡ entriesIn n t ++ entryAt t n ∷ []
+  entries-more h =
+      ap (λ (j : ℕ). entriesIn j t) (add-one n)
+      ∙ ap (map entryFrom) (take-suc t n 0 h)
+      ∙ map-last (take n t) (getD t n 0)
+
+  pub entries-put : (w : ℕ) → n < length t → entriesIn (n + 1) (set t n w) ≡ entriesIn n t ++ entryFrom w ∷ []
+  entries-put w h =
+      ap (λ (j : ℕ). entriesIn j (set t n w)) (add-one n)
+      ∙ ap (map entryFrom) (take-suc-set t n w h)
+      ∙ map-last (take n t) w
+
+-- the count is stored
+pub counted : (t : List ℕ) (k : ℕ) → length t ≡ words → k ≤ room → entriesOf (set t room k) ≡ entriesIn k t
 unfolding entriesOf
-entry-at m i d h = getD-take (m .count) (m .entries) i d (omega (arith, length-take (m .count) (m .entries)))
+counted t k long h =
+    let e : countOf (set t room k) ≡ k = ap (min room) (getD-set-same t room k 0 (omega arith)) ∙ omega arith in
+    ap (λ (j : ℕ). entriesIn j (set t room k)) e ∙ ap (map entryFrom) (take-set-le k t room k h)
 
--- THE SEARCH: what it finds is what it finds from place i on
+-- THE SEARCH
 
-module _ (p : Entry → Bool) (m : Map) (i : ℕ) (d : Entry) (h : i < length (entriesOf m)) where
-  here : first p (drop i (entriesOf m))
-      ≡ cond (p (getD (m .entries) i d)) (accepted (getD (m .entries) i d)) (first p (drop (suc i) (entriesOf m)))
-  unfolding first
-  here =
-      ap (first p) (drop-cons (entriesOf m) i d h)
-      ∙ ap (λ (e : Entry). cond (p e) (accepted e) (first p (drop (suc i) (entriesOf m)))) (entry-at m i d h)
+-- what the code's test says of a word's entry
+pub tells : (key : Key) (w : ℕ) {e : Entry} {b c : Bool} → b ≡ keyAs key e → e ≡ entryFrom w → b ≡ c → keyAs key (entryFrom w) ≡ c
+tells key w h s q = sym (h ∙ ap (keyAs key) s) ∙ q
 
-  pub hit : p (getD (m .entries) i d) ≡ true → first p (drop i (entriesOf m)) ≡ accepted (getD (m .entries) i d)
-  hit e = here ∙ simp e
+module _ (p : Entry → Bool) (t : List ℕ) where
+  pub before-more : (i j : ℕ) → j ≡ i + 1 → Before p t i → p (entryAt t i) ≡ false → Before p t j
+  before-more i j e b x k h = go (eqb k i) (λ q. eqb-true k i q) (λ q. eqb-false k i q)
+    where
+      go : (c : Bool) → (c ≡ true → k ≡ i) → (c ≡ false → k ≡ i → ⊥) → p (entryAt t k) ≡ false
+      go true q r = subst (λ (m : ℕ). p (entryAt t m) ≡ false) (sym (q (λ j. true))) x
+      go false q r = let ne = r (λ j. false) in b k (omega arith)
 
-  pub miss : p (getD (m .entries) i d) ≡ false → first p (drop i (entriesOf m)) ≡ first p (drop (i + 1) (entriesOf m))
-  miss e = here ∙ simp (e, add-one)
+  pub found-none : (n i : ℕ) → n ≤ i → Before p t i → Found p t n n
+  found-none n i h b = record { most = omega arith; before = λ k l. b k (omega arith); hit = λ l. absurd (omega arith) }
 
-pub none-left : (p : Entry → Bool) (m : Map) (i : ℕ) → i ≡ length (entriesOf m) → first p (drop i (entriesOf m)) ≡ refused 13
-unfolding first
-none-left p m i e = rw (e, drop-length)
+  pub found-hit : (n i : ℕ) → i < n → Before p t i → p (entryAt t i) ≡ true → Found p t n i
+  found-hit n i h b x = record { most = omega arith; before = b; hit = λ l. x }
 
--- THE PASS: of the first i entries those that stay stand in the first k places; those from i on are untouched
+  -- none of the first entries
+  pub none-of : (i : ℕ) → i ≤ length t → Before p t i → None p (entryFrom 0) (entriesIn i t) (length (entriesIn i t))
+  none-of i h b k l =
+      let m : k < i = omega (arith, entries-length t i h) in
+      ap p (entry-at t i k m) ∙ b k m
 
-pub record Kept (p : Entry → Bool) (m₀ : Map) (i k : ℕ) (m : Map) : Type 0 where
-  pub long : length (m .entries) ≡ room
-  pub low : k ≤ i
-  pub done : take k (m .entries) ≡ without p (take i (entriesOf m₀))
-  pub left : drop i (m .entries) ≡ drop i (m₀ .entries)
+-- THE PASS
 
-pub kept-none : (p : Entry → Bool) (m : Map) → length (m .entries) ≡ room → Kept p m 0 0 m
-unfolding without
-kept-none p m long = record { long = long; low = omega arith; done = refl; left = refl }
+module _ (p : Entry → Bool) (t₀ : List ℕ) (long : length t₀ ≡ words) where
+  pub kept-none : (n i : ℕ) → n ≤ room → Found p t₀ n i → Kept p t₀ i i t₀
+  kept-none n i h f =
+      let l : i ≤ length t₀ = omega (arith, f .most) in
+      record {
+        long = long;
+        low = omega arith;
+        done = sym (without-none p (entryFrom 0) (entriesIn i t₀) (none-of p t₀ i l (f .before)));
+        left = λ j. drop i t₀;
+      }
 
-module _ (p : Entry → Bool) (m₀ : Map) (i k : ℕ) (m : Map) (d : Entry) (h : i < length (entriesOf m₀)) (s : Kept p m₀ i k m) where
-  same : getD (entriesOf m₀) i d ≡ getD (m .entries) i d
-  same =
-      entry-at m₀ i d h
-      ∙ sym (getD-drop i (m₀ .entries) 0 d ∙ ap (λ (j : ℕ). getD (m₀ .entries) j d) (omega arith))
-      ∙ ap (λ (l : List Entry). getD l 0 d) (sym (s .left))
-      ∙ getD-drop i (m .entries) 0 d ∙ ap (λ (j : ℕ). getD (m .entries) j d) (omega arith)
+  module _ (i k : ℕ) (t : List ℕ) (h : i < room) (s : Kept p t₀ i k t) where
+    same : getD t₀ i 0 ≡ getD t i 0
+    same =
+        sym (getD-drop i t₀ 0 0 ∙ ap (λ (j : ℕ). getD t₀ j 0) (omega arith))
+        ∙ ap (λ (l : List ℕ). getD l 0 0) (sym (s .left))
+        ∙ getD-drop i t 0 0 ∙ ap (λ (j : ℕ). getD t j 0) (omega arith)
 
-  -- one entry more is looked at
-  more : without p (take (i + 1) (entriesOf m₀)) ≡ take k (m .entries) ++ without p (getD (m .entries) i d ∷ [])
-  more =
-      ap (λ (j : ℕ). without p (take j (entriesOf m₀))) (add-one i)
-      ∙ ap (without p) (take-suc (entriesOf m₀) i d h)
-      ∙ without-append p (take i (entriesOf m₀)) (getD (entriesOf m₀) i d ∷ [])
-      ∙ (λ j. sym (s .done) j ++ without p (same j ∷ []))
+    -- one entry more is looked at
+    more : without p (entriesIn (i + 1) t₀) ≡ entriesIn k t ++ without p (entryAt t i ∷ [])
+    more =
+        ap (without p) (entries-more t₀ i (omega arith))
+        ∙ without-append p (entriesIn i t₀) (entryAt t₀ i ∷ [])
+        ∙ (λ j. sym (s .done) j ++ without p (entryFrom (same j) ∷ []))
 
-  rest : drop (i + 1) (m .entries) ≡ drop (i + 1) (m₀ .entries)
-  rest = sym (drop-drop 1 i (m .entries)) ∙ ap (drop 1) (s .left) ∙ drop-drop 1 i (m₀ .entries)
+    rest : drop (i + 1) t ≡ drop (i + 1) t₀
+    rest = sym (drop-drop 1 i t) ∙ ap (drop 1) (s .left) ∙ drop-drop 1 i t₀
 
-  pub removed : p (getD (m .entries) i d) ≡ true → Kept p m₀ (i + 1) k m
-  unfolding without
-  removed e = record {
-    long = s .long;
-    low = omega (arith, s .low);
-    done = sym (more ∙ simp e (append-nil (take k (m .entries))));
-    left = rest;
-  }
+    pub goes : p (entryAt t i) ≡ true → Kept p t₀ (i + 1) k t
+    unfolding without
+    goes e = record {
+      long = s .long;
+      low = omega (arith, s .low);
+      done = sym (more ∙ simp e (append-nil (entriesIn k t)));
+      left = rest;
+    }
 
-  pub stays : k < room → p (getD (m .entries) i d) ≡ false
-      → Kept p m₀ (i + 1) (k + 1) (record { entries = set (m .entries) k (getD (m .entries) i d); count = m .count })
-  unfolding without
-  stays hk e = record {
-    long = length-set (m .entries) k _ ∙ s .long;
-    low = omega (arith, s .low);
-    done =
-        ap (λ (j : ℕ). take j (set (m .entries) k (getD (m .entries) i d))) (add-one k)
-        ∙ take-suc-set (m .entries) k (getD (m .entries) i d) (omega (arith, s .long))
-        ∙ sym (more ∙ simp e);
-    left = drop-set-lt (i + 1) (m .entries) k (getD (m .entries) i d) (omega (arith, s .low)) ∙ rest;
-  }
-
--- after the last
-pub all-looked-at : (p : Entry → Bool) (m₀ : Map) (i k : ℕ) (m : Map) → i ≡ length (entriesOf m₀) → Kept p m₀ i k m
-    → entriesOf (record { entries = m .entries; count = k }) ≡ without p (entriesOf m₀)
-unfolding entriesOf
-all-looked-at p m₀ i k m e s =
-    s .done ∙ ap (λ (j : ℕ). without p (take j (entriesOf m₀))) e ∙ ap (without p) (take-length (entriesOf m₀))
-
--- A NEW ENTRY, after the others
-
--- what is given of one answer is given of its equal
-pub so : {m : Map} {a b : Answer (List Entry)} {r : Noted} → a ≡ b → Gives m a r → Gives m b r
-so {m} {a} {b} {r} e g = subst (λ (x : Answer (List Entry)). Gives m x r) e g
-
-module _ (m others : Map) (n : Entry) (k : ℕ) (e : entriesOf others ≡ without (hasEither n) (entriesOf m))
-    (count : k ≡ length (entriesOf others)) where
-  pub put-last : length (others .entries) ≡ room → k < room
-      → accepted (entriesOf (record { entries = set (others .entries) k n; count = k + 1 })) ≡ add (entriesOf m) n
-  unfolding add entriesOf
-  put-last long h =
-      let own : k ≡ others .count = omega (arith, length-take (others .count) (others .entries)) in
-      ap accepted
-      (ap (λ (j : ℕ). take j (set (others .entries) k n)) (add-one k)
-      ∙ take-suc-set (others .entries) k n (omega arith)
-      ∙ ap (λ (j : ℕ). take j (others .entries) ++ n ∷ []) own
-      ∙ ap (λ (l : List Entry). l ++ n ∷ []) e)
-      ∙ sym (simp (lt-leb room (length (without (hasEither n) (entriesOf m))) (omega (arith, ap length e))))
-
-  pub no-room : room ≤ k → refused 12 ≡ add (entriesOf m) n
-  unfolding add
-  no-room h = sym (simp (le-leb room (length (without (hasEither n) (entriesOf m))) (omega (arith, ap length e))))
+    pub stays : p (entryAt t i) ≡ false → Kept p t₀ (i + 1) (k + 1) (set t k (getD t i 0))
+    unfolding without
+    stays e = record {
+      long = length-set t k (getD t i 0) ∙ s .long;
+      low = omega (arith, s .low);
+      done = entries-put t k (getD t i 0) (omega (arith, s .low, s .long)) ∙ sym (more ∙ simp e);
+      left = drop-set-lt (i + 1) t k (getD t i 0) (omega (arith, s .low)) ∙ rest;
+    }

@@ -1,23 +1,16 @@
--- The code's values in document 01's terms: a map's entries, and the number and values for each case of the enums.
+-- The code's values in document 01's terms: the number and values for each case of the enums, and what a note gives.
 use mathlib.Core.Path.{_≡_}
 use Prim.Native.Nat.{ℕ}
 use mathlib.Core.Bool.{Bool}
 use mathlib.Core.List.{List}
-use lib.ListN.{take}
-use Rattle.alias_map.specs.Rules.{Answer, accepted, refused, hasAlias, hasId, hasEither}
+use Rattle.alias_map.specs.Rules.{Answer, accepted, refused, after, hasAlias, hasId, hasEither}
+use Rattle.alias_map.specs.Words.{entriesOf}
 use Rattle.alias_map.specs.declared.entry.Entry.{Entry}
 use Rattle.alias_map.specs.declared.entry.Key as K
-use Rattle.alias_map.specs.declared.map.Map.{Map}
 use Rattle.alias_map.specs.declared.answer.Refusal as R
 use Rattle.alias_map.specs.declared.answer.Answer as A
-use Rattle.alias_map.specs.declared.answer.Noted as N
 use Rattle.alias_map.specs.declared.answer.FoundId as I
 use Rattle.alias_map.specs.declared.answer.FoundAlias as F
-use Rattle.alias_map.specs.declared.look_up.Hit as H
-
--- The entries of a map, oldest first: its first places, as many as it counts.
-unfoldable pub entriesOf : Map → List Entry
-entriesOf m = take (m .count) (m .entries)
 
 abbrev pub keyAs : K.Key → Entry → Bool
 keyAs (K.the-variants.Alias a) = hasAlias (a .0)
@@ -33,23 +26,11 @@ abbrev pub answerAs : A.Answer → List Entry → Answer (List Entry)
 answerAs A.the-variants.Accepted es = accepted es
 answerAs (A.the-variants.Refused r) es = refused (refusalAs r)
 
--- A refusal gives back the map as it was.
-abbrev pub AsWas : A.Answer → (before after : Map) → Type 0
-AsWas A.the-variants.Accepted before after = Unit {0}
-AsWas (A.the-variants.Refused r) before after = after ≡ before
-
--- A note that is answered so gives this of the map before it.
-pub record Gives (before : Map) (a : Answer (List Entry)) (r : N.Noted) : Type 0 where
-  pub answer : answerAs (r .answer) (entriesOf (r .map)) ≡ a
-  pub as-was : AsWas (r .answer) before (r .map)
-
--- Accepted, with these entries, whatever the map was before.
-abbrev pub Leaves : List Entry → N.Noted → Type 0
-Leaves es r = (before : Map) → Gives before (accepted es) r
-
-abbrev pub hitAs : H.Hit → Answer Entry
-hitAs H.the-variants.Nothing = refused 13
-hitAs (H.the-variants.Entry e) = accepted e
+-- A note that is answered so, by these rules, leads from these words to those. Where the rules change no entry, as after a
+-- refusal, no word changes.
+pub record Gives (before : List ℕ) (a : Answer (List Entry)) (x : A.Answer) (then : List ℕ) : Type 0 where
+  pub answer : answerAs x (entriesOf then) ≡ a
+  pub still : after a (entriesOf before) ≡ entriesOf before → then ≡ before
 
 abbrev pub idAs : I.FoundId → Answer ℕ
 idAs (I.the-variants.Id i) = accepted i

@@ -1,5 +1,7 @@
 pub mod Rules
+pub mod Words
 pub mod Answers
+pub mod Parts
 pub mod Laws
 pub mod Sound
 pub mod Order

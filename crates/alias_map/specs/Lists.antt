@@ -1,15 +1,15 @@
 -- Frames noted one after another from an empty map: every answer and the entries are what the rules give.
 use mathlib.Core.Path.{_≡_, refl, sym, ap, subst, _∙_}
+use Prim.Native.Nat.{ℕ}
 use mathlib.Core.List.{List, [], _∷_, _++_, map, append-nil, append-assoc}
 use Rattle.headers.specs.declared.frame.Frame.{Frame}
 use Rattle.alias_map.specs.Rules.{Answer, entryIn, note, after}
-use Rattle.alias_map.specs.Answers.{entriesOf, answerAs, AsWas}
-use Rattle.alias_map.specs.Sound.{Sound, empty-sound, Notes}
+use Rattle.alias_map.specs.Words.{entriesOf}
+use Rattle.alias_map.specs.Answers.{answerAs}
+use Rattle.alias_map.specs.Sound.{Sound, empty-sound, leaves, Notes}
 use Rattle.alias_map.specs.Order.{Within, all, some-of-some, both, note-follows}
 use Rattle.alias_map.specs.declared.entry.Entry.{Entry}
-use Rattle.alias_map.specs.declared.map.Map.{Map}
 use Rattle.alias_map.specs.declared.answer.Answer as A
-use Rattle.alias_map.specs.declared.answer.Noted as N
 
 -- The rules over a list: the entries after these frames,
 unfoldable pub run : List Entry → List Frame → List Entry
@@ -21,29 +21,21 @@ unfoldable pub answers : List Entry → List Frame → List (Answer (List Entry)
 answers es [] = []
 answers es (f ∷ fs) = note es f ∷ answers (after (note es f) es) fs
 
--- The operations over a list: these frames, noted one after another, answered so and led from one map to the other.
+-- The operations over a list: these frames, noted one after another, answered so and led from these words to those.
 -- `Notes` is what `note` ensures.
-pub data Carried : Map → List Frame → List (Answer (List Entry)) → Map → Type 0 where
-  begun : {m : Map} → Carried m [] [] m
-  then : {m m′ : Map} {f : Frame} {r : N.Noted} {fs : List Frame} {xs : List (Answer (List Entry))}
-      → Notes m f r → Carried (r .map) fs xs m′
-      → Carried m (f ∷ fs) (answerAs (r .answer) (entriesOf (r .map)) ∷ xs) m′
+pub data Carried : List ℕ → List Frame → List (Answer (List Entry)) → List ℕ → Type 0 where
+  begun : {t : List ℕ} → Carried t [] [] t
+  then : {t t₁ t₂ : List ℕ} {f : Frame} {x : A.Answer} {fs : List Frame} {xs : List (Answer (List Entry))}
+      → Notes t f x t₁ → Carried t₁ fs xs t₂
+      → Carried t (f ∷ fs) (answerAs x (entriesOf t₁) ∷ xs) t₂
 
 -- THE CLAIM: the answers and the entries are what the rules give from the frames alone; the entries are sound, so that no
 -- two have one alias or one Node ID; and they stand in the order in which their frames were noted.
-pub record Claim (fs : List Frame) (xs : List (Answer (List Entry))) (m : Map) : Type 0 where
+pub record Claim (fs : List Frame) (xs : List (Answer (List Entry))) (t : List ℕ) : Type 0 where
   pub answers : xs ≡ answers [] fs
-  pub entries : entriesOf m ≡ run [] fs
-  pub sound : Sound (entriesOf m)
-  pub order : Within (entriesOf m) (map entryIn fs)
-
--- what a note leaves
-leaves : (m : Map) (f : Frame) (r : N.Noted) → Notes m f r → entriesOf (r .map) ≡ after (note (entriesOf m) f) (entriesOf m)
-leaves m f r h = go (r .answer) (r .map) (h .gives .as-was) ∙ ap (λ (a : Answer (List Entry)). after a (entriesOf m)) (h .gives .answer)
-  where
-    go : (x : A.Answer) (m′ : Map) → AsWas x m m′ → entriesOf m′ ≡ after (answerAs x (entriesOf m′)) (entriesOf m)
-    go A.the-variants.Accepted m′ w = refl
-    go (A.the-variants.Refused r) m′ w = ap entriesOf w
+  pub entries : entriesOf t ≡ run [] fs
+  pub sound : Sound (entriesOf t)
+  pub order : Within (entriesOf t) (map entryIn fs)
 
 -- the rules' entries stand in the order of noting, after those that there were
 pub in-order : (es : List Entry) (fs : List Frame) → Within (run es fs) (es ++ map entryIn fs)
@@ -54,26 +46,26 @@ in-order es (f ∷ fs) =
     (subst (Within (after (note es f) es ++ map entryIn fs)) (append-assoc es (entryIn f ∷ []) (map entryIn fs))
     (both (note-follows es f) (all (map entryIn fs))))
 
-follows : {m m′ : Map} {fs : List Frame} {xs : List (Answer (List Entry))} → Carried m fs xs m′
-    → (xs ≡ answers (entriesOf m) fs) × (entriesOf m′ ≡ run (entriesOf m) fs) × (Sound (entriesOf m) → Sound (entriesOf m′))
+follows : {t t′ : List ℕ} {fs : List Frame} {xs : List (Answer (List Entry))} → Carried t fs xs t′
+    → (xs ≡ answers (entriesOf t) fs) × (entriesOf t′ ≡ run (entriesOf t) fs) × (Sound (entriesOf t) → Sound (entriesOf t′))
 unfolding run answers
 follows begun = (refl, refl, λ h. h)
-follows (then {m} {m′} {f} {r} {fs} h c) =
-    let e = leaves m f r h in
-    let t = follows c in (
-      (λ i. h .gives .answer i ∷ (t .0 ∙ ap (λ (l : List Entry). answers l fs) e) i),
-      t .1 ∙ ap (λ (l : List Entry). run l fs) e,
-      λ s. t .2 (h .sound s),
+follows (then {t} {t₁} {t₂} {f} {x} {fs} h c) =
+    let e = leaves t (note (entriesOf t) f) x t₁ (h .gives) in
+    let r = follows c in (
+      (λ i. h .gives .answer i ∷ (r .0 ∙ ap (λ (l : List Entry). answers l fs) e) i),
+      r .1 ∙ ap (λ (l : List Entry). run l fs) e,
+      λ s. r .2 (h .sound s),
     )
 
-pub claim : {m m′ : Map} {fs : List Frame} {xs : List (Answer (List Entry))}
-    → entriesOf m ≡ [] → Carried m fs xs m′ → Claim fs xs m′
-claim {m} {m′} {fs} {xs} e c =
-    let t = follows c in
-    let r = t .1 ∙ ap (λ (l : List Entry). run l fs) e in
+pub claim : {t t′ : List ℕ} {fs : List Frame} {xs : List (Answer (List Entry))}
+    → entriesOf t ≡ [] → Carried t fs xs t′ → Claim fs xs t′
+claim {t} {t′} {fs} {xs} e c =
+    let s = follows c in
+    let r = s .1 ∙ ap (λ (l : List Entry). run l fs) e in
     record {
-      answers = t .0 ∙ ap (λ (l : List Entry). answers l fs) e;
+      answers = s .0 ∙ ap (λ (l : List Entry). answers l fs) e;
       entries = r;
-      sound = t .2 (subst Sound (sym e) empty-sound);
+      sound = s .2 (subst Sound (sym e) empty-sound);
       order = subst (λ (l : List Entry). Within l (map entryIn fs)) (sym r) (in-order [] fs);
     }

@@ -9,13 +9,12 @@ use lib.ListN.{length, length-append}
 use borrow.Author.Tests.{eq-eqb, eqb-false, leb-false}
 use Rattle.headers.specs.Frames.{malformed}
 use Rattle.headers.specs.declared.frame.Frame.{Frame}
-use Rattle.alias_map.specs.Rules.{Answer, accepted, refused, refuse, aliasIn, kindIn, Kind, cid, rid, amd, ame, amr, errorReport, reserved, message, room, hasAlias, hasId, hasEither, without, add, define, noteKind, entryIn, note}
-use Rattle.alias_map.specs.Answers.{entriesOf, answerAs, AsWas, Gives}
+use Rattle.alias_map.specs.Rules.{Answer, accepted, refused, refuse, aliasIn, kindIn, Kind, cid, rid, amd, ame, amr, errorReport, reserved, message, room, hasAlias, hasId, hasEither, without, add, define, noteKind, entryIn, note, after}
+use Rattle.alias_map.specs.Words.{entriesOf}
+use Rattle.alias_map.specs.Answers.{refusalAs, answerAs, Gives}
 use Rattle.alias_map.specs.Laws.{Implies, like-alias, like-id, without-length, count, count-append, count-without, count-removed}
 use Rattle.alias_map.specs.declared.entry.Entry.{Entry}
-use Rattle.alias_map.specs.declared.map.Map.{Map}
 use Rattle.alias_map.specs.declared.answer.Answer as A
-use Rattle.alias_map.specs.declared.answer.Noted as N
 
 -- neither alias nor Node ID is 0, and they have 12 and 48 bits
 pub record Named (e : Entry) : Type 0 where
@@ -142,20 +141,35 @@ note-keeps es f hb h = go (malformed f) (eqb (f .kind) 0) (kindIn (f .header))
     go false true k = kinds k
     go false false k = h
 
--- So is the map that a note gives back.
-pub gives-sound : (m : Map) (a : Answer (List Entry)) (r : N.Noted) → Gives m a r → Keeps a → Sound (entriesOf m)
-    → Sound (entriesOf (r .map))
-gives-sound m a r g k h = go (r .answer) (r .map) (subst Keeps (sym (g .answer)) k) (g .as-was)
+-- What a note leaves: the entries that the rules give.
+pub leaves : (t : List ℕ) (a : Answer (List Entry)) (x : A.Answer) (t′ : List ℕ) → Gives t a x t′ → entriesOf t′ ≡ after a (entriesOf t)
+leaves t (accepted es) A.the-variants.Accepted t′ g = was es (g .answer)
   where
-    go : (x : A.Answer) (m′ : Map) → Keeps (answerAs x (entriesOf m′)) → AsWas x m m′ → Sound (entriesOf m′)
-    go A.the-variants.Accepted m′ s w = s
-    go (A.the-variants.Refused r) m′ s w = subst (λ (x : Map). Sound (entriesOf x)) (sym w) h
+    was : (es : List Entry) → _≡_ {A = Answer (List Entry)} (accepted (entriesOf t′)) (accepted es) → entriesOf t′ ≡ es
+    was es e = cc
+leaves t (accepted es) (A.the-variants.Refused r) t′ g = clash (g .answer)
+  where
+    clash : _≡_ {A = Answer (List Entry)} (refused (refusalAs r)) (accepted es) → entriesOf t′ ≡ es
+    clash e = cc
+leaves t (refused number) x t′ g = ap entriesOf (g .still refl)
+
+-- So are the entries that a note leaves.
+pub gives-sound : (t : List ℕ) (a : Answer (List Entry)) (x : A.Answer) (t′ : List ℕ) → Gives t a x t′ → Keeps a
+    → Sound (entriesOf t) → Sound (entriesOf t′)
+gives-sound t a x t′ g k h = subst Sound (sym (leaves t a x t′ g)) (go a k)
+  where
+    go : (a : Answer (List Entry)) → Keeps a → Sound (after a (entriesOf t))
+    go (accepted es) s = s
+    go (refused number) s = h
 
 -- WHAT `note` PROMISES
 
-pub record Notes (before : Map) (f : Frame) (r : N.Noted) : Type 0 where
-  pub gives : Gives before (note (entriesOf before) f) r
-  pub sound : Sound (entriesOf before) → Sound (entriesOf (r .map))
+pub record Notes (before : List ℕ) (f : Frame) (x : A.Answer) (then : List ℕ) : Type 0 where
+  pub gives : Gives before (note (entriesOf before) f) x then
+  pub sound : Sound (entriesOf before) → Sound (entriesOf then)
 
-pub notes : (m : Map) (f : Frame) (r : N.Noted) → f .bytes < 2 ^ 64 → Gives m (note (entriesOf m) f) r → Notes m f r
-notes m f r hb g = record { gives = g; sound = λ h. gives-sound m (note (entriesOf m) f) r g (note-keeps (entriesOf m) f hb h) h }
+pub notes : (t : List ℕ) (f : Frame) (x : A.Answer) (t′ : List ℕ) → f .bytes < 2 ^ 64 → Gives t (note (entriesOf t) f) x t′ → Notes t f x t′
+notes t f x t′ hb g = record {
+  gives = g;
+  sound = λ h. gives-sound t (note (entriesOf t) f) x t′ g (note-keeps (entriesOf t) f hb h) h;
+}

@@ -1,6 +1,9 @@
 // The map of foreign aliases: which Node ID stands behind an alias that was seen on the bus.
 pub mod answer;
 pub mod entry;
+pub mod layout;
 pub mod look_up;
 pub mod map;
 pub mod note;
+mod remove;
+mod search;

@@ -1,55 +1,40 @@
-// Looking up, either way. The search ends at its hit.
+// Looking up, either way.
 use crate::answer::FoundAlias;
 use crate::answer::FoundId;
-use crate::entry::Entry;
 use crate::entry::Key;
-use crate::map::Map;
+use crate::entry::entry_in;
+use crate::layout::WORDS;
+use crate::map::len;
+use crate::search::find;
 use headers::alias::Alias;
 ghost use mathlib.Core.Path.{_≡_};
-ghost use Rattle.alias_map.specs.Rules.{first, idOf, aliasOf};
-ghost use Rattle.alias_map.specs.Answers.{entriesOf, keyAs, hitAs, idAs, aliasAs};
+ghost use Rattle.alias_map.specs.Rules.{idOf, aliasOf};
+ghost use Rattle.alias_map.specs.Words.{entriesOf};
+ghost use Rattle.alias_map.specs.Answers.{idAs, aliasAs};
 
-// What a search ends with.
-pub(crate) enum Hit {
-    Nothing,
-    Entry(Entry),
+// The Node ID of an alias.
+pub fn id_of(map: &[u64; WORDS], alias: Alias) -> FoundId
+    ensures { λ r. ⌜ idAs r ≡ idOf (entriesOf (now (map .entry))) (alias .0) ⌝ }
+{
+    let n = len(map);
+    let i = find(map, n, Key::Alias(alias));
+    if i < n {
+        let e = entry_in(map[i]);
+        return FoundId::Id(e.id);
+    }
+    FoundId::Absent
 }
 
-impl Map {
-    // The oldest entry that the key means.
-    pub(crate) fn find(self, key: Key) -> Hit
-        ensures { λ r. ⌜ hitAs r ≡ first (keyAs key) (entriesOf self) ⌝ }
-    {
-        let n = self.len();
-        for i in 0..n {
-            let e = self.entries[i];
-            if e.has(key) {
-                return Hit::Entry(e);
-            }
-        }
-        Hit::Nothing
+// The alias of a Node ID.
+pub fn alias_of(map: &[u64; WORDS], id: u64) -> FoundAlias
+    ensures { λ r. ⌜ aliasAs r ≡ aliasOf (entriesOf (now (map .entry))) id ⌝ }
+{
+    let n = len(map);
+    let i = find(map, n, Key::Id(id));
+    if i < n {
+        let e = entry_in(map[i]);
+        let a = e.alias;
+        return FoundAlias::Alias(a);
     }
-
-    // The Node ID of an alias.
-    pub fn id_of(self, alias: Alias) -> FoundId
-        ensures { λ r. ⌜ idAs r ≡ idOf (entriesOf self) (alias .0) ⌝ }
-    {
-        match self.find(Key::Alias(alias)) {
-            Hit::Entry(e) => FoundId::Id(e.id),
-            Hit::Nothing => FoundId::Absent,
-        }
-    }
-
-    // The alias of a Node ID.
-    pub fn alias_of(self, id: u64) -> FoundAlias
-        ensures { λ r. ⌜ aliasAs r ≡ aliasOf (entriesOf self) id ⌝ }
-    {
-        match self.find(Key::Id(id)) {
-            Hit::Entry(e) => {
-                let a = e.alias;
-                FoundAlias::Alias(a)
-            }
-            Hit::Nothing => FoundAlias::Absent,
-        }
-    }
+    FoundAlias::Absent
 }

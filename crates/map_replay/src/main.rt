@@ -3,7 +3,7 @@ use alias_map::answer::Answer;
 use alias_map::answer::FoundAlias;
 use alias_map::answer::FoundId;
 use alias_map::answer::Refusal;
-use alias_map::map::Map;
+use alias_map::layout::WORDS;
 use headers::alias::Alias;
 use headers::frame::Frame;
 use libc::STDIN_FILENO;
@@ -50,15 +50,14 @@ fn hex_line(n: u64) -> [u8; 13]
     text
 }
 
-fn note(map: Map, b: &[u8; 14]) -> Map {
+fn note(map: &mut [u64; WORDS], b: &[u8; 14]) {
     let f = Frame {
         kind: b[0],
         header: (number(b, 1, 5) % 0x1_0000_0000) as u32,
         len: b[5],
         bytes: number(b, 6, 14),
     };
-    let noted = map.note(f);
-    let answer = noted.answer;
+    let answer = alias_map::note::note(&mut *map, f);
     match answer {
         Answer::Accepted => {
             io::write_all(STDOUT_FILENO, b"ok\n");
@@ -72,11 +71,10 @@ fn note(map: Map, b: &[u8; 14]) -> Map {
             }
         },
     }
-    noted.map
 }
 
-fn look_up_alias(map: Map, b: &[u8; 14]) {
-    match map.id_of(Alias((number(b, 0, 2) % 0x1_0000) as u16)) {
+fn look_up_alias(map: &[u64; WORDS], b: &[u8; 14]) {
+    match alias_map::look_up::id_of(map, Alias((number(b, 0, 2) % 0x1_0000) as u16)) {
         FoundId::Id(id) => {
             let text = hex_line(id);
             io::write_all(STDOUT_FILENO, b"ok ");
@@ -88,8 +86,8 @@ fn look_up_alias(map: Map, b: &[u8; 14]) {
     }
 }
 
-fn look_up_id(map: Map, b: &[u8; 14]) {
-    match map.alias_of(number(b, 0, 6)) {
+fn look_up_id(map: &[u64; WORDS], b: &[u8; 14]) {
+    match alias_map::look_up::alias_of(map, number(b, 0, 6)) {
         FoundAlias::Alias(a) => {
             let text = hex_line(a.0 as u64);
             io::write_all(STDOUT_FILENO, b"ok ");
@@ -102,41 +100,39 @@ fn look_up_id(map: Map, b: &[u8; 14]) {
 }
 
 // One operation: 0 notes a frame, 1 looks an alias up, 2 a Node ID, 3 begins with an empty map.
-fn carry_out(map: Map, op: u8) -> Map {
+fn carry_out(map: &mut [u64; WORDS], op: u8) {
     let mut b = [0u8; 14];
     match op {
         0 => {
             io::read_full(STDIN_FILENO, &mut b);
-            note(map, &b)
+            note(&mut *map, &b);
         }
         1 => {
             io::read_full(STDIN_FILENO, &mut b[..2]);
-            look_up_alias(map, &b);
-            map
+            look_up_alias(&*map, &b);
         }
         2 => {
             io::read_full(STDIN_FILENO, &mut b[..6]);
-            look_up_id(map, &b);
-            map
+            look_up_id(&*map, &b);
         }
         3 => {
             io::write_all(STDOUT_FILENO, b"new\n");
-            Map::empty()
+            alias_map::map::new(&mut *map);
         }
         _ => {
             io::write_all(STDOUT_FILENO, b"unknown\n");
-            map
         }
     }
 }
 
 fn main() {
-    let mut map = Map::empty();
+    let mut map = [0u64; WORDS];
+    alias_map::map::new(&mut map);
     for _ in 0..MOST {
         let mut op = [0u8; 1];
         if io::read_full(STDIN_FILENO, &mut op) == 0 {
             return;
         }
-        map = carry_out(map, op[0]);
+        carry_out(&mut map, op[0]);
     }
 }
