@@ -11,7 +11,7 @@ use borrow.Author.Tests.{eq-eqb, eqb-true, ltb-true, ltb-false, le-leb, lt-leb}
 use Rattle.alias_map.specs.Rules.{Answer, accepted, refused, after, aliasIn, idIn, room, hasAlias, hasId, hasEither, without, add, first}
 use Rattle.alias_map.specs.Words.{words, entryFrom, entryAt, entriesIn, entriesOf}
 use Rattle.alias_map.specs.Answers.{Gives}
-use Rattle.alias_map.specs.Parts.{Counted, Found, Kept, Removed}
+use Rattle.alias_map.specs.Parts.{Counted, Before, Found, Kept, Removed}
 use Rattle.alias_map.specs.Laws.{without-append}
 use Rattle.alias_map.specs.declared.answer.Answer as A
 use Rattle.alias_map.specs.declared.answer.Answer.the-variants.{Accepted, Refused}
@@ -44,6 +44,23 @@ module _ (t : List ℕ) (n : ℕ) (c : Counted t n) where
   inside : n ≤ length t
   inside = omega (arith, c .most, c .long)
 
+  -- LOOKING UP
+
+  module _ (p : Entry → Bool) (i : ℕ) (b : Before p t i) where
+    pub absent : n ≤ i → first p (entriesOf t) ≡ refused 13
+    absent h =
+        ap (first p) entries-are
+        ∙ first-none p (entryFrom 0) (entriesIn n t) (none-of p t n inside (λ k l. b k (omega arith)))
+
+    pub present : i < n → p (entryAt t i) ≡ true → first p (entriesOf t) ≡ accepted (entryAt t i)
+    present h x =
+        ap (first p) entries-are
+        ∙ first-hit p (entryFrom 0) (entriesIn n t) i (omega (arith, entries-length t n inside))
+        (λ k l. let m : k < n = omega arith in ap p (entry-at t n k m) ∙ b k l) (ap p (entry-at t n i h) ∙ x)
+        ∙ ap accepted (entry-at t n i h)
+
+  -- REMOVING
+
   module _ (p : Entry → Bool) (i : ℕ) (f : Found p t n i) where
     at-hit : i < n → p (getD (entriesIn n t) i (entryFrom 0)) ≡ true
     at-hit h = ap p (entry-at t n i h) ∙ f .hit h
@@ -51,22 +68,8 @@ module _ (t : List ℕ) (n : ℕ) (c : Counted t n) where
     in-length : i < n → i < length (entriesIn n t)
     in-length h = omega (arith, entries-length t n inside)
 
-    -- LOOKING UP
-
-    pub looked-hit : i < n → first p (entriesOf t) ≡ accepted (entryAt t i)
-    looked-hit h =
-        ap (first p) entries-are
-        ∙ first-hit p (entryFrom 0) (entriesIn n t) i (in-length h)
-        (λ k l. let m : k < n = omega arith in ap p (entry-at t n k m) ∙ f .before k l) (at-hit h)
-        ∙ ap accepted (entry-at t n i h)
-
     all-before : n ≤ i → (k : ℕ) → k < n → p (entryAt t k) ≡ false
     all-before h k l = f .before k (omega arith)
-
-    pub looked-none : n ≤ i → first p (entriesOf t) ≡ refused 13
-    looked-none h = ap (first p) entries-are ∙ first-none p (entryFrom 0) (entriesIn n t) (none-of p t n inside (all-before h))
-
-    -- REMOVING
 
     without-is : n ≤ i → without p (entriesOf t) ≡ entriesOf t
     without-is h =

@@ -11,23 +11,21 @@ use lib.Seq.{length-take-le, take-suc, take-set-le, getD-set-same, getD-take, ge
 use borrow.Author.Tests.{eqb-true, eqb-false}
 use Rattle.alias_map.specs.Rules.{room, without}
 use Rattle.alias_map.specs.Words.{words, entryFrom, entryAt, entriesIn, countOf, entriesOf}
-use Rattle.alias_map.specs.Answers.{keyAs}
 use Rattle.alias_map.specs.Parts.{Before, Found, Kept}
 use Rattle.alias_map.specs.Laws.{without-append}
 use Rattle.alias_map.specs.declared.entry.Entry.{Entry}
-use Rattle.alias_map.specs.declared.entry.Key.{Key}
 use Rattle.alias_map.proofs.Hits.{None, without-none}
 
 -- THE WORD OF AN ENTRY: alias and Node ID come back
 
 module _ (a i : ℕ) where
-  word-id : (a % 2 ^ 12 * 2 ^ 48 + i % 2 ^ 48) % 2 ^ 48 ≡ i % 2 ^ 48
+  word-id : (a % 2 ^ 12 * 2 ^ 52 + i % 2 ^ 48) % 2 ^ 48 ≡ i % 2 ^ 48
   word-id = omega arith
 
-  word-alias : (a % 2 ^ 12 * 2 ^ 48 + i % 2 ^ 48) / 2 ^ 48 % 2 ^ 12 ≡ a % 2 ^ 12
+  word-alias : (a % 2 ^ 12 * 2 ^ 52 + i % 2 ^ 48) / 2 ^ 52 % 2 ^ 12 ≡ a % 2 ^ 12
   word-alias = omega arith
 
-  pub word-back : entryFrom (a % 2 ^ 12 * 2 ^ 48 + i % 2 ^ 48) ≡ record { alias = record { 0 = a % 2 ^ 12 }; id = i % 2 ^ 48 }
+  pub word-back : entryFrom (a % 2 ^ 12 * 2 ^ 52 + i % 2 ^ 48) ≡ record { alias = record { 0 = a % 2 ^ 12 }; id = i % 2 ^ 48 }
   unfolding entryFrom
   word-back = λ j. record { alias = record { 0 = word-alias j }; id = word-id j }
 
@@ -65,9 +63,9 @@ counted t k long h =
 
 -- THE SEARCH
 
--- what the code's test says of a word's entry
-pub tells : (key : Key) (w : ℕ) {e : Entry} {b c : Bool} → b ≡ keyAs key e → e ≡ entryFrom w → b ≡ c → keyAs key (entryFrom w) ≡ c
-tells key w h s q = sym (h ∙ ap (keyAs key) s) ∙ q
+-- what the code's test of an entry says of its word
+pub tells : (p : Entry → Bool) (w : ℕ) {e : Entry} {b c : Bool} → b ≡ p e → e ≡ entryFrom w → b ≡ c → p (entryFrom w) ≡ c
+tells p w h s q = sym (h ∙ ap p s) ∙ q
 
 module _ (p : Entry → Bool) (t : List ℕ) where
   pub before-more : (i j : ℕ) → j ≡ i + 1 → Before p t i → p (entryAt t i) ≡ false → Before p t j

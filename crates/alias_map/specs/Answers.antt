@@ -3,7 +3,7 @@ use mathlib.Core.Path.{_≡_}
 use Prim.Native.Nat.{ℕ}
 use mathlib.Core.Bool.{Bool}
 use mathlib.Core.List.{List}
-use Rattle.alias_map.specs.Rules.{Answer, accepted, refused, after, hasAlias, hasId, hasEither}
+use Rattle.alias_map.specs.Rules.{Answer, accepted, refused, after, hasAlias, hasEither}
 use Rattle.alias_map.specs.Words.{entriesOf}
 use Rattle.alias_map.specs.declared.entry.Entry.{Entry}
 use Rattle.alias_map.specs.declared.entry.Key as K
@@ -14,7 +14,6 @@ use Rattle.alias_map.specs.declared.answer.FoundAlias as F
 
 abbrev pub keyAs : K.Key → Entry → Bool
 keyAs (K.the-variants.Alias a) = hasAlias (a .0)
-keyAs (K.the-variants.Id i) = hasId i
 keyAs (K.the-variants.Either n) = hasEither n
 
 abbrev pub refusalAs : R.Refusal → ℕ

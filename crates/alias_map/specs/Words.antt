@@ -8,9 +8,9 @@ use Rattle.alias_map.specs.declared.entry.Entry.{Entry}
 abbrev pub words : ℕ
 words = room + 1
 
--- The entry that a word holds, whatever the word: from its lowest bit 48 bits Node ID, 12 bits alias.
+-- The entry that a word holds, whatever the word: the highest 12 bits are the alias, the lowest 48 the Node ID.
 unfoldable pub entryFrom : ℕ → Entry
-entryFrom w = record { alias = record { 0 = w / 2 ^ 48 % 2 ^ 12 }; id = w % 2 ^ 48 }
+entryFrom w = record { alias = record { 0 = w / 2 ^ 52 % 2 ^ 12 }; id = w % 2 ^ 48 }
 
 abbrev pub entryAt : List ℕ → ℕ → Entry
 entryAt t k = entryFrom (getD t k 0)

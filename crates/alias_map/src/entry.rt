@@ -1,4 +1,5 @@
 // An entry of the map, what entries are told apart by, and an entry as a word.
+use crate::layout::ALIAS;
 use crate::layout::ALIASES;
 use crate::layout::IDS;
 use headers::alias::Alias;
@@ -14,10 +15,9 @@ pub struct Entry {
     pub id: u64,
 }
 
-// The entries that are meant: those with this alias, those with this Node ID, or those with either of an entry's.
+// The entries that a note removes: those with this alias, or those with either alias or Node ID of an entry.
 pub(crate) enum Key {
     Alias(Alias),
-    Id(u64),
     Either(Entry),
 }
 
@@ -29,7 +29,6 @@ impl Entry {
         let own = self.alias;
         match key {
             Key::Alias(a) => own.same(a),
-            Key::Id(i) => self.id == i,
             Key::Either(e) => {
                 let a = e.alias;
                 if own.same(a) {
@@ -58,7 +57,7 @@ pub(crate) fn entry_in(w: u64) -> Entry
     ensures { λ r. ⌜ r ≡ entryFrom w ⌝ }
 {
     Entry {
-        alias: Alias((w / IDS % ALIASES) as u16),
+        alias: Alias((w / ALIAS % ALIASES) as u16),
         id: w % IDS,
     }
 }
@@ -73,5 +72,5 @@ fn wide(x: u16) -> u64
 pub(crate) fn word_of(alias: Alias, id: u64) -> u64
     ensures { λ r. ⌜ entryFrom r ≡ record { alias = record { 0 = alias .0 % 2 ^ 12 }; id = id % 2 ^ 48 } ⌝ }
 {
-    wide(alias.0) % ALIASES * IDS + id % IDS
+    wide(alias.0) % ALIASES * ALIAS + id % IDS
 }

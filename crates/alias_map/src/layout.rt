@@ -14,8 +14,15 @@ pub const WORDS: usize = Map::ROOM + 1;
 
 pub(crate) const COUNT: usize = Map::ROOM;
 
-// WITHIN AN ENTRY'S WORD, from its lowest bit: 48 bits Node ID, 12 bits alias, 4 bits that are ignored.
+// A search compares the entries of a row one after another before it looks again at how many entries there are.
+pub(crate) const ROW: usize = 8;
+
+pub(crate) const ROWS: usize = Map::ROOM / ROW;
+
+// WITHIN AN ENTRY'S WORD: the highest 12 bits are the alias, the lowest 48 the Node ID; the 4 between are ignored.
 
 pub(crate) const IDS: u64 = 0x1_0000_0000_0000;
+
+pub(crate) const ALIAS: u64 = 0x10_0000_0000_0000;
 
 pub(crate) const ALIASES: u64 = 0x1000;

@@ -1,11 +1,11 @@
-// Looking up, either way.
+// Looking up, either way. A search ends at its hit.
 use crate::answer::FoundAlias;
 use crate::answer::FoundId;
-use crate::entry::Key;
 use crate::entry::entry_in;
+use crate::layout::ROW;
+use crate::layout::ROWS;
 use crate::layout::WORDS;
 use crate::map::len;
-use crate::search::find;
 use headers::alias::Alias;
 ghost use mathlib.Core.Path.{_≡_};
 ghost use Rattle.alias_map.specs.Rules.{idOf, aliasOf};
@@ -17,10 +17,21 @@ pub fn id_of(map: &[u64; WORDS], alias: Alias) -> FoundId
     ensures { λ r. ⌜ idAs r ≡ idOf (entriesOf (now (map .entry))) (alias .0) ⌝ }
 {
     let n = len(map);
-    let i = find(map, n, Key::Alias(alias));
-    if i < n {
-        let e = entry_in(map[i]);
-        return FoundId::Id(e.id);
+    for row in 0..ROWS {
+        if n <= ROW * row {
+            return FoundId::Absent;
+        }
+        for j in 0..ROW {
+            let i = ROW * row + j;
+            let e = entry_in(map[i]);
+            let a = e.alias;
+            if a.same(alias) {
+                if i < n {
+                    return FoundId::Id(e.id);
+                }
+                return FoundId::Absent;
+            }
+        }
     }
     FoundId::Absent
 }
@@ -30,11 +41,21 @@ pub fn alias_of(map: &[u64; WORDS], id: u64) -> FoundAlias
     ensures { λ r. ⌜ aliasAs r ≡ aliasOf (entriesOf (now (map .entry))) id ⌝ }
 {
     let n = len(map);
-    let i = find(map, n, Key::Id(id));
-    if i < n {
-        let e = entry_in(map[i]);
-        let a = e.alias;
-        return FoundAlias::Alias(a);
+    for row in 0..ROWS {
+        if n <= ROW * row {
+            return FoundAlias::Absent;
+        }
+        for j in 0..ROW {
+            let i = ROW * row + j;
+            let e = entry_in(map[i]);
+            if e.id == id {
+                if i < n {
+                    let a = e.alias;
+                    return FoundAlias::Alias(a);
+                }
+                return FoundAlias::Absent;
+            }
+        }
     }
     FoundAlias::Absent
 }

@@ -1,17 +1,14 @@
-// The search for an entry. It ends at its hit.
+// The search for the entries that a note removes. It ends at its hit.
 use crate::entry::Key;
 use crate::entry::entry_in;
+use crate::layout::ROW;
+use crate::layout::ROWS;
 use crate::layout::WORDS;
 ghost use mathlib.Core.Path.{_≡_};
 ghost use Prim.Native.Nat.{_≤_};
 ghost use Rattle.alias_map.specs.Rules.{room};
 ghost use Rattle.alias_map.specs.Answers.{keyAs};
 ghost use Rattle.alias_map.specs.Parts.{Found};
-
-// Entries are compared by so many in a row, between two looks at how many there are.
-const ROW: usize = 8;
-
-const ROWS: usize = 8;
 
 // The place of the first of n entries that the key means, n where there is none.
 pub(crate) fn find(map: &[u64; WORDS], n: usize, key: Key) -> usize

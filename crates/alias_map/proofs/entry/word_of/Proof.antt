@@ -12,4 +12,4 @@ word-of-spec =
     (λ c κs. search needs)
     (λ c. search needs)
     (λ c. search needs)
-    (λ c. ap (λ (x : ℕ). entryFrom (x % 2 ^ 12 * 2 ^ 48 + c .before .args .id % 2 ^ 48)) (c .wide .ensures) ∙ word-back _ _))
+    (λ c. ap (λ (x : ℕ). entryFrom (x % 2 ^ 12 * 2 ^ 52 + c .before .args .id % 2 ^ 48)) (c .wide .ensures) ∙ word-back _ _))

@@ -36,7 +36,7 @@ remove-spec =
       c .before .before .before .before .before .loop .inv .1,
       omega arith,
       λ l f. goes _ _ l _ _ _ (omega arith) (c .before .before .before .before .before .loop .inv .3 l f)
-          (tells (c .before .before .before .before .before .before .args .key) _ (c .before .has .ensures) (c .before .before .entry-in .ensures) (c .if1 .taken)),
+          (tells (keyAs (c .before .before .before .before .before .before .args .key)) _ (c .before .has .ensures) (c .before .before .entry-in .ensures) (c .if1 .taken)),
     ))
     (λ c. search needs)
     (λ c. search needs)
@@ -48,7 +48,7 @@ remove-spec =
       c .before .before .before .before .before .loop .inv .1,
       omega arith,
       λ l f. stays _ _ l _ _ _ (omega arith) (c .before .before .before .before .before .loop .inv .3 l f)
-          (tells (c .before .before .before .before .before .before .args .key) _ (c .before .has .ensures) (c .before .before .entry-in .ensures) (c .if1 .left)),
+          (tells (keyAs (c .before .before .before .before .before .before .args .key)) _ (c .before .has .ensures) (c .before .before .entry-in .ensures) (c .if1 .left)),
     ))
     (λ c. record {
       most = omega arith;

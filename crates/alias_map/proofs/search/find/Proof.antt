@@ -38,7 +38,7 @@ find-spec =
     (λ c κs. search needs)
     (λ c κs. search needs)
     (λ c. found-hit _ _ _ _ (c .if3 .taken) (c .before .before .before .before .before .before .loop2 .inv .3)
-    (tells (c .before .before .before .before .before .before .before .before .before .before .args .key) _ (c .before .before .has .ensures) (c .before .before .before .entry-in .ensures) (c .before .if2 .taken)))
+    (tells (keyAs (c .before .before .before .before .before .before .before .before .before .before .args .key)) _ (c .before .before .has .ensures) (c .before .before .before .entry-in .ensures) (c .before .if2 .taken)))
     (λ c. found-none _ _ _ _ (c .if3 .left) (c .before .before .before .before .before .before .loop2 .inv .3))
     (λ c. search needs)
     (λ c. search needs)
@@ -47,7 +47,7 @@ find-spec =
       c .before .before .before .before .before .loop2 .inv .1,
       omega arith,
       before-more (keyAs (c .before .before .before .before .before .before .before .before .before .args .key)) (c .before .before .before .before .before .before .before .before .before .args .map .now) _ _ (omega arith) (c .before .before .before .before .before .loop2 .inv .3)
-          (tells (c .before .before .before .before .before .before .before .before .before .args .key) _ (c .before .has .ensures) (c .before .before .entry-in .ensures) (c .if2 .left)),
+          (tells (keyAs (c .before .before .before .before .before .before .before .before .before .args .key)) _ (c .before .has .ensures) (c .before .before .entry-in .ensures) (c .if2 .left)),
     ))
     (λ c. search needs)
     (λ c. search needs)

@@ -1,0 +1,15 @@
+use mathlib.Core.Path.{refl}
+use borrow.Author.Needs.{needs}
+use Rattle.card_api.proofs.lcc.parts_words.Statement.{statement}
+use Rattle.card_api.proofs.lcc.parts_words.Tie as tie
+
+pub parts-words-spec : {M : Type 1} → statement M
+parts-words-spec =
+    tie.close (tie.spec
+    (λ c κs. search needs)
+    (λ c. search needs)
+    (λ c. search needs)
+    (λ c κs. search needs)
+    (λ c κs. search needs)
+    (λ c κs. search needs)
+    (λ c. rw (c .before .before .before .before .before .type-bit .ensures, c .before .before .kind-code .ensures, c .before .kind-number .ensures, c .kind-section .ensures) refl))

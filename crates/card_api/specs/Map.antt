@@ -1,0 +1,20 @@
+-- The map for C: a note's answer as a number, and what the operation promises of it: what the note that it calls promises.
+use mathlib.Core.Path.{_≡_}
+use mathlib.Core.List.{List}
+use Prim.Native.Nat.{ℕ}
+use Rattle.headers.specs.declared.frame.Frame.{Frame}
+use Rattle.alias_map.specs.Answers.{refusalAs}
+use Rattle.alias_map.specs.Sound.{Notes}
+use Rattle.alias_map.specs.declared.answer.Answer.{Answer}
+use Rattle.alias_map.specs.declared.answer.Answer.the-variants.{Accepted, Refused}
+
+-- 0 where accepted, else the refusal's number.
+abbrev pub noteCode : Answer → ℕ
+noteCode Accepted = 0
+noteCode (Refused r) = refusalAs r
+
+-- The note has an answer, r is its number, and the words are as the note promises.
+pub record CodedNote (f : Frame) (t : List ℕ) (r : ℕ) (t′ : List ℕ) : Type 0 where
+  pub answer : Answer
+  pub code : r ≡ noteCode answer
+  pub does : Notes t f answer t′

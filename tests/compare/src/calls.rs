@@ -1,0 +1,136 @@
+//! Single calls, the proved ones and the same in plain Rust: looking up in a full map, noting, reading headers.
+
+use crate::card::{read_header, ProvedMap};
+use reference::header::{self, Header, Kind};
+use reference::{Alias, AliasMap, Frame, Refusal};
+use std::hint::black_box;
+
+/// A call of each side on the operand with this number. Both give something to be looked at, so that no work is left out.
+pub struct Row {
+    pub name: &'static str,
+    pub proved: Box<dyn FnMut(u64)>,
+    pub plain: Box<dyn FnMut(u64)>,
+}
+
+/// The alias and the Node ID of the entry with this number, and the header and data of its AMD.
+fn entry(number: u64) -> (u16, u64) {
+    (0x100 + number as u16, 0x0501_0101_0100 + number)
+}
+
+fn amd(number: u64) -> (u32, u64) {
+    let (alias, id) = entry(number);
+    (0x1070_1000 + u32::from(alias), id << 16)
+}
+
+/// Entries 0 to 63, the oldest first.
+fn full() -> (ProvedMap, AliasMap) {
+    let (mut proved, mut plain) = (ProvedMap::new(), AliasMap::new());
+    for number in 0..64 {
+        let (header, bytes) = amd(number);
+        assert_eq!(proved.note(0, header, 6, bytes), 0);
+        assert_eq!(plain.note(&Frame::with_node_id(header, entry(number).1)), Ok(()));
+    }
+    (proved, plain)
+}
+
+#[inline(never)]
+fn plain_id_of(map: &AliasMap, alias: Alias) -> Result<u64, Refusal> {
+    map.node_id_of(alias)
+}
+
+#[inline(never)]
+fn plain_alias_of(map: &AliasMap, id: u64) -> Result<Alias, Refusal> {
+    map.alias_of(id)
+}
+
+#[inline(never)]
+fn plain_note(map: &mut AliasMap, frame: &Frame) -> Result<(), Refusal> {
+    map.note(frame)
+}
+
+#[inline(never)]
+fn plain_read(header: u32) -> Result<(Header, Kind), Refusal> {
+    header::read(header).map(|parts| (parts, parts.kind()))
+}
+
+fn by_alias(name: &'static str, number: u64) -> Row {
+    let ((proved, plain), (alias, id)) = (full(), entry(number));
+    let mut found = [0];
+    let absent = number > 63;
+    assert_eq!(proved.id_of(alias, &mut found), if absent { 13 } else { 0 });
+    assert_eq!(plain_id_of(&plain, Alias(alias)).ok(), if absent { None } else { Some(id) });
+    assert_eq!(found, [if absent { 0 } else { id }]);
+    Row {
+        name,
+        proved: Box::new(move |_| {
+            black_box(proved.id_of(black_box(alias), black_box(&mut found)));
+        }),
+        plain: Box::new(move |_| {
+            black_box(plain_id_of(&plain, black_box(Alias(alias)))).ok();
+        }),
+    }
+}
+
+fn by_id(name: &'static str, number: u64) -> Row {
+    let ((proved, plain), (alias, id)) = (full(), entry(number));
+    let mut found = [0];
+    let absent = number > 63;
+    assert_eq!(proved.alias_of(id, &mut found), if absent { 13 } else { 0 });
+    assert_eq!(plain_alias_of(&plain, id).ok(), if absent { None } else { Some(Alias(alias)) });
+    assert_eq!(found, [if absent { 0 } else { u64::from(alias) }]);
+    Row {
+        name,
+        proved: Box::new(move |_| {
+            black_box(proved.alias_of(black_box(id), black_box(&mut found)));
+        }),
+        plain: Box::new(move |_| {
+            black_box(plain_alias_of(&plain, black_box(id))).ok();
+        }),
+    }
+}
+
+/// AMDs noted in a full map, `answered` so each time: those of the entries from `first` on, again and again.
+fn noting(name: &'static str, first: u64, answered: u64) -> Row {
+    let (mut proved, mut plain) = full();
+    let frame = move |turn: u64| amd(first + turn % 64);
+    Row {
+        name,
+        proved: Box::new(move |turn| {
+            let (header, bytes) = frame(turn);
+            assert_eq!(proved.note(0, header, 6, bytes), answered);
+        }),
+        plain: Box::new(move |turn| {
+            let (header, bytes) = frame(turn);
+            let noted = plain_note(&mut plain, &Frame { header, kind: 0, len: 6, data: bytes.to_be_bytes() });
+            assert_eq!(noted.is_ok(), answered == 0);
+        }),
+    }
+}
+
+fn reading() -> Row {
+    let headers = [0x1705_0263, 0x1070_0263, 0x1070_1263, 0x1070_2263, 0x1070_3263, 0x1071_2263, 0x1070_4263, 0x195B_4263];
+    let mut parts = [0; 6];
+    Row {
+        name: "header, eight kinds in turn",
+        proved: Box::new(move |turn| {
+            black_box(read_header(black_box(headers[turn as usize % 8]), black_box(&mut parts)));
+        }),
+        plain: Box::new(move |turn| {
+            black_box(plain_read(black_box(headers[turn as usize % 8]))).ok();
+        }),
+    }
+}
+
+pub fn rows() -> Vec<Row> {
+    vec![
+        by_alias("map, first alias", 0),
+        by_alias("map, last alias", 63),
+        by_alias("map, absent alias", 64),
+        by_id("map, first Node ID", 0),
+        by_id("map, last Node ID", 63),
+        by_id("map, absent Node ID", 64),
+        noting("full map, oldest renewed", 0, 0),
+        noting("full map, refused by 12", 64, 12),
+        reading(),
+    ]
+}
