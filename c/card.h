@@ -27,9 +27,15 @@ extern "C" {
 /* The words of a table. How they are laid out is no caller's business: card_look and card_inbox show what they hold. */
 #define CARD_WORDS 1928
 
+/* The words of a map of foreign aliases. */
+#define MAP_WORDS 65
+
 /* The nodes of a table have the indexes 0 to 23, and an inbox has the places 0 to 31. */
 #define CARD_NODES 24
 #define CARD_INBOX 32
+
+/* The entries that a map has room for. */
+#define MAP_ENTRIES 64
 
 /* Document 01's refusals. 10 and 11 are given by the program `segment` alone. */
 enum {
@@ -43,7 +49,9 @@ enum {
     CARD_REFUSED_HOST_WAITING = 8,  /* a host frame waits already */
     CARD_REFUSED_MALFORMED = 9,     /* an operand is out of range */
     CARD_REFUSED_UNKNOWN = 10,      /* the command is unknown */
-    CARD_REFUSED_CUT_SHORT = 11     /* the script ends within the command */
+    CARD_REFUSED_CUT_SHORT = 11,    /* the script ends within the command */
+    CARD_REFUSED_FULL = 12,         /* the map is full: 64 other entries remain */
+    CARD_REFUSED_ABSENT = 13        /* the map has no such entry */
 };
 
 /* COMMANDS, as document 01 has them. The refusals of each are tested in the order given. */
@@ -117,6 +125,59 @@ uint64_t card_inbox(const uint64_t table[CARD_WORDS], size_t index, size_t place
 
 /* The places of `frame`. */
 enum { CARD_FRAME_KIND, CARD_FRAME_HEADER, CARD_FRAME_LEN, CARD_FRAME_BYTES, CARD_FRAME_WORDS };
+
+/* THE MAP of foreign aliases: which Node ID stands behind an alias that was seen on the bus. */
+
+/* No entry. */
+void map_new(uint64_t map[MAP_WORDS]);
+
+/* A frame was seen on the bus: an AMD makes an entry, an AMR removes one. Operands as in card_foreign. 9, 12. */
+uint64_t map_note(uint64_t map[MAP_WORDS], uint8_t kind, uint32_t header, uint8_t len, uint64_t bytes);
+
+/* The Node ID of an alias. 13. */
+uint64_t map_id_of(const uint64_t map[MAP_WORDS], uint16_t alias, uint64_t found[1]);
+
+/* The alias of a Node ID. 13. */
+uint64_t map_alias_of(const uint64_t map[MAP_WORDS], uint64_t id, uint64_t found[1]);
+
+/* HEADERS AND ALIASES, as the standard has them */
+
+/* The header of a frame. type: 0 control, 1 message. 9. */
+uint64_t lcc_write_header(uint8_t type, uint16_t field, uint16_t alias, uint64_t header[1]);
+
+/* What a header says. 9. */
+uint64_t lcc_read_header(uint32_t header, uint64_t parts[6]);
+
+/* The places of `parts`. */
+enum {
+    LCC_PARTS_TYPE,
+    LCC_PARTS_FIELD,
+    LCC_PARTS_ALIAS,
+    LCC_PARTS_KIND,    /* one of the kinds below */
+    LCC_PARTS_NUMBER,  /* of a CID or an error report, else 0 */
+    LCC_PARTS_SECTION, /* of a CID: a part of the Node ID, else 0 */
+    LCC_PARTS_WORDS
+};
+
+enum {
+    LCC_KIND_CID,
+    LCC_KIND_RID,
+    LCC_KIND_AMD,
+    LCC_KIND_AME,
+    LCC_KIND_AMR,
+    LCC_KIND_ERROR_REPORT,
+    LCC_KIND_RESERVED,
+    LCC_KIND_MESSAGE
+};
+
+/* The first alias of a Node ID. 3. */
+uint64_t lcc_first_alias(uint64_t id, uint64_t alias[1]);
+
+/* The generator's next state and the alias drawn from it; the state starts at the Node ID. 9. */
+uint64_t lcc_next_alias(uint64_t state, uint64_t next[2]);
+
+/* The places of `next`. */
+enum { LCC_NEXT_STATE, LCC_NEXT_ALIAS, LCC_NEXT_WORDS };
 
 #ifdef __cplusplus
 }

@@ -126,14 +126,11 @@ fn parts_words(p: Parts) -> [u64; 6]
     let class = p.class;
     let alias = p.alias;
     let kind = p.kind;
-    [
-        type_bit(class),
-        p.field as u64,
-        alias.0 as u64,
-        kind_code(kind),
-        kind_number(kind),
-        kind_section(kind),
-    ]
+    let bit = type_bit(class);
+    let code = kind_code(kind);
+    let number = kind_number(kind);
+    let section = kind_section(kind);
+    [bit, p.field as u64, alias.0 as u64, code, number, section]
 }
 
 #[no_mangle]

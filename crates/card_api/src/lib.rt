@@ -1,5 +1,8 @@
-// The table for C: its operations over a plain pointer to its words, answers as numbers. Here the commands; looking in look.rt.
+// For C: the table's commands over a plain pointer to its words, answers as numbers. Beside them looking (look.rt), the map of
+// foreign aliases (map.rt), headers and aliases (lcc.rt).
+pub mod lcc;
 pub mod look;
+pub mod map;
 
 use headers::frame::Frame;
 use node::answer::Answer;

@@ -7,9 +7,14 @@ pub parts-words-spec : {M : Type 1} → statement M
 parts-words-spec =
     tie.close (tie.spec
     (λ c κs. search needs)
+    (λ c κs. search needs)
+    (λ c κs. search needs)
+    (λ c κs. search needs)
     (λ c. search needs)
     (λ c. search needs)
-    (λ c κs. search needs)
-    (λ c κs. search needs)
-    (λ c κs. search needs)
-    (λ c. rw (c .before .before .before .before .before .type-bit .ensures, c .before .before .kind-code .ensures, c .before .kind-number .ensures, c .kind-section .ensures) refl))
+    (λ c. rw (
+      c .before .before .before .before .before .type-bit .ensures,
+      c .before .before .before .before .kind-code .ensures,
+      c .before .before .before .kind-number .ensures,
+      c .before .before .kind-section .ensures,
+    ) refl))
