@@ -63,7 +63,7 @@ fn by_alias(name: &'static str, number: u64) -> Row {
     Row {
         name,
         proved: Box::new(move |_| {
-            black_box(proved.id_of(black_box(alias), black_box(&mut found)));
+            black_box(proved.id_of(black_box(alias), &mut found));
         }),
         plain: Box::new(move |_| {
             black_box(plain_id_of(&plain, black_box(Alias(alias)))).ok();
@@ -81,7 +81,7 @@ fn by_id(name: &'static str, number: u64) -> Row {
     Row {
         name,
         proved: Box::new(move |_| {
-            black_box(proved.alias_of(black_box(id), black_box(&mut found)));
+            black_box(proved.alias_of(black_box(id), &mut found));
         }),
         plain: Box::new(move |_| {
             black_box(plain_alias_of(&plain, black_box(id))).ok();
@@ -113,7 +113,7 @@ fn reading() -> Row {
     Row {
         name: "header, eight kinds in turn",
         proved: Box::new(move |turn| {
-            black_box(read_header(black_box(headers[turn as usize % 8]), black_box(&mut parts)));
+            black_box(read_header(black_box(headers[turn as usize % 8]), &mut parts));
         }),
         plain: Box::new(move |turn| {
             black_box(plain_read(black_box(headers[turn as usize % 8]))).ok();

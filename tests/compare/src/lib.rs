@@ -1,5 +1,7 @@
 //! The proved libraries behind safe functions, and what the comparisons and the benchmark share.
 
+pub mod calls;
+pub mod card;
 pub mod operations;
 pub mod setting;
 pub mod shrink;

@@ -1,6 +1,7 @@
-//! The same scripts through the proved library and through the other implementation, in one process: median ratios.
+//! The same scripts and calls through the proved libraries and through the other implementation, in one process: median ratios.
 //! REPEATS may be given: how often each is run.
 
+use compare::calls::{self, Row};
 use compare::setting::setting;
 use compare::Proved;
 use reference::generate::draft::Draft;
@@ -11,6 +12,16 @@ use std::time::{Duration, Instant};
 
 fn main() {
     let repeats = setting("REPEATS", 1, 101);
+    scripts(repeats);
+    println!();
+    println!("{:<28} {:>12} {:>12} {:>6}", "call", "proved", "plain Rust", "ratio");
+    for row in &mut calls::rows() {
+        let (proved, plain) = measure_calls(row, repeats);
+        println!("{:<28} {proved:>9.2} ns {plain:>9.2} ns {:>6.2}", row.name, proved / plain);
+    }
+}
+
+fn scripts(repeats: u64) {
     let rows: [(&str, Vec<u8>); 4] = [
         ("ticks, 24 idle nodes", idle_ticks(60_000)),
         ("breaker start of 24", breaker_start(40)),
@@ -52,6 +63,23 @@ fn measure(script: &[u8], repeats: u64) -> (Duration, Duration) {
         second.push(start.elapsed());
     }
     (median(first), median(second))
+}
+
+/// The median time of a call of each side in nanoseconds, taken in turn.
+fn measure_calls(row: &mut Row, repeats: u64) -> (f64, f64) {
+    const CALLS: u64 = 6_400;
+    let time = |call: &mut dyn FnMut(u64)| {
+        let start = Instant::now();
+        (0..CALLS).for_each(|turn| call(turn));
+        start.elapsed()
+    };
+    let (mut first, mut second) = (Vec::new(), Vec::new());
+    for _ in 0..repeats {
+        first.push(time(&mut row.proved));
+        second.push(time(&mut row.plain));
+    }
+    let each = |times| median(times).as_nanos() as f64 / CALLS as f64;
+    (each(first), each(second))
 }
 
 fn median(mut times: Vec<Duration>) -> Duration {
