@@ -1,0 +1,130 @@
+//! What the tool does for each wish: reads a script, and gives the text to print.
+
+use std::fs;
+use std::io::{self, IsTerminal, Read};
+use std::path::Path;
+
+use crate::card::Card;
+use crate::expand::{expand, Expanded};
+use crate::explain::Explain;
+use crate::paint::Paint;
+use crate::picture::{self, Record};
+use crate::play::{self, LIMIT};
+use crate::progress::Progress;
+use crate::script::{self, Fault};
+use crate::summary::Summary;
+use crate::usage::{Options, Wish, HELP};
+use crate::watch::{Moment, Watch};
+use crate::{listing, spell};
+
+/// What went wrong: bad usage or a bad script; or an output that could not be written.
+#[derive(Debug)]
+pub enum Trouble {
+    Script(String),
+    Output(String),
+}
+
+/// Of wrong lines, so many are named.
+const NAMED: usize = 10;
+
+/// The bytes to print for a wish; notes go to standard error.
+pub fn fulfil(wish: &Wish) -> Result<Vec<u8>, Trouble> {
+    match wish {
+        Wish::Help => Ok(HELP.into()),
+        Wish::Hex(file) => Ok(listing::listing(&script_of(file)?.bytes).into()),
+        Wish::Names(file) => Ok(spell::script(&script_of(file)?.bytes).into()),
+        Wish::Bytes(file) => {
+            let script = script_of(file)?;
+            note_the_limit(&script);
+            Ok(script.bytes)
+        }
+        Wish::Run(file, options) => {
+            let script = script_of(file)?;
+            note_the_limit(&script);
+            run(&script, file, options).map(String::into_bytes)
+        }
+    }
+}
+
+/// The bytes of a script that can be read and has no wrong line.
+fn script_of(file: &Path) -> Result<Expanded, Trouble> {
+    let mut bytes = Vec::new();
+    let read = match file.to_str() {
+        Some("-") => io::stdin().read_to_end(&mut bytes).map(|_| ()),
+        _ => fs::read(file).map(|found| bytes = found),
+    };
+    read.map_err(|why| Trouble::Script(format!("cannot read {}: {why}", file.display())))?;
+    let lines = script::parse(&String::from_utf8_lossy(&bytes));
+    lines.map(|lines| expand(&lines)).map_err(|faults| Trouble::Script(faults_text(file, &faults)))
+}
+
+fn faults_text(file: &Path, faults: &[Fault]) -> String {
+    let name = file.display();
+    let named = faults
+        .iter()
+        .take(NAMED)
+        .map(|fault| format!("{name}: line {}: {}", fault.line, fault.why));
+    let mut lines: Vec<String> = named.collect();
+    if faults.len() > NAMED {
+        lines.push(format!("{name}: and {} more wrong lines", faults.len() - NAMED));
+    }
+    lines.join("\n")
+}
+
+fn note_the_limit(script: &Expanded) {
+    if script.bytes.len() > LIMIT {
+        let (bytes, line) = (script.bytes.len(), script.line_of(LIMIT));
+        eprintln!("lcc: the script has {bytes} bytes, and the program uses the first {LIMIT}: in line {line} the run ends");
+    }
+}
+
+fn run(script: &Expanded, file: &Path, options: &Options) -> Result<String, Trouble> {
+    if *options == Options::default() {
+        return Ok(plain(&script.bytes));
+    }
+    let paint = Paint(io::stdout().is_terminal() && std::env::var_os("NO_COLOR").is_none());
+    let mut explain = Explain::new(paint);
+    let (mut summary, mut record) = (Summary::default(), Record::default());
+    let mut lines = String::new();
+    let card = watched(&script.bytes, |moment| {
+        if options.explain {
+            explain.note(moment);
+        } else {
+            lines += &(play::line(&moment.turn) + "\n");
+        }
+        summary.note(moment);
+        record.note(moment);
+    });
+    let last = play::last_line(&card);
+    let mut text = if options.explain { explain.end(last) } else { lines + last + "\n" };
+    if options.summary {
+        text += &summary.text(&card, paint);
+    }
+    if let Some(picture) = &options.picture {
+        let name = file.file_name().map_or("script".into(), |name| name.to_string_lossy());
+        fs::write(picture, picture::draw(&record, &name, last))
+            .map_err(|why| Trouble::Output(format!("cannot write {}: {why}", picture.display())))?;
+    }
+    Ok(text)
+}
+
+/// The lines of a run, and nothing else.
+fn plain(script: &[u8]) -> String {
+    let mut card = Card::new();
+    let mut text = String::new();
+    play::play(script, &mut card, |turn, _| text += &(play::line(turn) + "\n"));
+    text + play::last_line(&card) + "\n"
+}
+
+/// Plays a script, and shows each moment of it; gives the card as it is left.
+fn watched(script: &[u8], mut show: impl FnMut(&Moment)) -> Card {
+    let mut card = Card::new();
+    let mut watch = Watch::default();
+    let mut progress = Progress::new(play::used(script).len());
+    play::play(script, &mut card, |turn, card| {
+        progress.at(turn.at);
+        show(&watch.look(turn, card));
+    });
+    progress.end();
+    card
+}

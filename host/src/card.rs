@@ -1,0 +1,172 @@
+//! The proved library behind safe functions. This is the only file of the tool that is not safe Rust.
+
+use crate::command::Command;
+use crate::frame::Frame;
+
+/// The nodes of a card, and the words of its table, as c/card.h has them.
+pub const PLACES: usize = 24;
+const WORDS: usize = 1928;
+
+/// The words that `card_send`, `card_look` and `card_inbox` write.
+type Sent = [u64; 3];
+type Look = [u64; 12];
+type Held = [u64; 4];
+
+extern "C" {
+    fn card_new(table: *mut u64);
+    fn card_is_late(table: *const u64) -> u64;
+    fn card_power_on(table: *mut u64, index: usize, id: u64) -> u64;
+    fn card_send(table: *mut u64, index: usize, sent: *mut u64) -> u64;
+    fn card_fail(table: *mut u64, index: usize) -> u64;
+    fn card_deliver(table: *mut u64, index: usize) -> u64;
+    fn card_tick(table: *mut u64) -> u64;
+    fn card_foreign(table: *mut u64, kind: u8, header: u32, len: u8, bytes: u64) -> u64;
+    fn card_message(table: *mut u64, index: usize, field: u16, len: u8, bytes: u64) -> u64;
+    fn card_enquiry(table: *mut u64, index: usize, len: u8, bytes: u64) -> u64;
+    fn card_release(table: *mut u64, index: usize) -> u64;
+    fn card_look(table: *const u64, index: usize, seen: *mut u64) -> u64;
+    fn card_inbox(table: *const u64, index: usize, place: usize, frame: *mut u64) -> u64;
+}
+
+/// What a command was answered.
+#[derive(Clone, Copy, Debug, PartialEq, Eq)]
+pub enum Answer {
+    Accepted,
+    /// An accepted send, with the frame that left.
+    Sent(Frame),
+    Refused(u64),
+}
+
+/// The states of a node, in the order of their numbers in `card_look`.
+#[derive(Clone, Copy, Debug, Default, PartialEq, Eq)]
+pub enum State {
+    #[default]
+    Off,
+    Testing,
+    Reserved,
+    Permitted,
+    Leaving,
+    Resting,
+    Silent,
+}
+
+impl State {
+    pub const ALL: [State; 7] = [
+        State::Off,
+        State::Testing,
+        State::Reserved,
+        State::Permitted,
+        State::Leaving,
+        State::Resting,
+        State::Silent,
+    ];
+
+    pub fn name(self) -> &'static str {
+        ["Off", "Testing", "Reserved", "Permitted", "Leaving", "Resting", "Silent"][self as usize]
+    }
+}
+
+/// What `card_look` shows of a node.
+#[derive(Clone, Copy, Debug, Default, PartialEq, Eq)]
+pub struct Seen {
+    pub state: State,
+    /// 0 where Off.
+    pub id: u64,
+    /// The alias in test or in use, 0 where neither.
+    pub alias: u16,
+    pub due: Option<Frame>,
+    /// How many frames stand in the inbox.
+    pub inbox: usize,
+}
+
+/// A card of 24 nodes.
+pub struct Card {
+    table: Box<[u64; WORDS]>,
+}
+
+impl Default for Card {
+    fn default() -> Self {
+        Self::new()
+    }
+}
+
+impl Card {
+    /// All nodes Off.
+    pub fn new() -> Card {
+        let mut table = Box::new([0; WORDS]);
+        // SAFETY: the table has CARD_WORDS words, which is all that any operation of the library asks of it.
+        unsafe { card_new(table.as_mut_ptr()) };
+        Card { table }
+    }
+
+    pub fn is_late(&self) -> bool {
+        // SAFETY: as in `new`; the table is lent for reading.
+        unsafe { card_is_late(self.table.as_ptr()) == 1 }
+    }
+
+    /// Carries out one command.
+    pub fn carry_out(&mut self, command: &Command) -> Answer {
+        let table = self.table.as_mut_ptr();
+        let data = u64::from_be_bytes;
+        // SAFETY: as in `new`; every operation takes any operands.
+        let number = unsafe {
+            match *command {
+                Command::On { index, id } => card_power_on(table, index.into(), id),
+                Command::Send { index } => return self.send(index),
+                Command::Fail { index } => card_fail(table, index.into()),
+                Command::Deliver { index } => card_deliver(table, index.into()),
+                Command::Tick => card_tick(table),
+                Command::Foreign(f) => card_foreign(table, f.kind, f.header, f.len, data(f.data)),
+                Command::Message { index, field, len, data: bytes } => {
+                    card_message(table, index.into(), field, len, data(bytes))
+                }
+                Command::Enquiry { index, len, id } => {
+                    card_enquiry(table, index.into(), len, id << 16)
+                }
+                Command::Release { index } => card_release(table, index.into()),
+            }
+        };
+        if number == 0 {
+            Answer::Accepted
+        } else {
+            Answer::Refused(number)
+        }
+    }
+
+    fn send(&mut self, index: u8) -> Answer {
+        let mut sent: Sent = [0; 3];
+        // SAFETY: as in `new`; `sent` has the three words that the operation writes.
+        match unsafe { card_send(self.table.as_mut_ptr(), index.into(), sent.as_mut_ptr()) } {
+            0 => Answer::Sent(Frame::of_words(0, sent[0], sent[1], sent[2])),
+            number => Answer::Refused(number),
+        }
+    }
+
+    /// What can be seen of a node; the index is below `PLACES`.
+    pub fn look(&self, index: usize) -> Seen {
+        let mut seen: Look = [0; 12];
+        // SAFETY: as in `new`; `seen` has the twelve words that the operation writes.
+        let number = unsafe { card_look(self.table.as_ptr(), index, seen.as_mut_ptr()) };
+        assert_eq!(number, 0, "card_look of node {index}");
+        Seen {
+            state: State::ALL[seen[0] as usize],
+            id: seen[1],
+            alias: seen[2] as u16,
+            due: (seen[3] == 1).then(|| Frame::of_words(0, seen[4], seen[5], seen[6])),
+            inbox: seen[7] as usize,
+        }
+    }
+
+    /// What can be seen of all nodes.
+    pub fn look_at_all(&self) -> [Seen; PLACES] {
+        std::array::from_fn(|index| self.look(index))
+    }
+
+    /// The frame at a place of a node's inbox, 0 the oldest; none where there is none.
+    pub fn inbox(&self, index: usize, place: usize) -> Option<Frame> {
+        let mut frame: Held = [0; 4];
+        // SAFETY: as in `new`; `frame` has the four words that the operation writes.
+        let number = unsafe { card_inbox(self.table.as_ptr(), index, place, frame.as_mut_ptr()) };
+        (number == 0).then(|| Frame::of_words(frame[0] as u8, frame[1], frame[2], frame[3]))
+    }
+}

@@ -1,0 +1,252 @@
+//! Beside each line of a run what it means in words; ticks in a row are one line.
+
+use crate::card::{Answer, Seen, State, PLACES};
+use crate::command::{Command, Read};
+use crate::frame::Frame;
+use crate::hex::{dotted_id, joined};
+use crate::paint::Paint;
+use crate::play;
+use crate::watch::{Late, Moment};
+use crate::words;
+
+/// The column at which the words begin.
+const COLUMN: usize = 38;
+
+/// Ticks in a row that have not been printed yet.
+struct Ticks {
+    first: usize,
+    last: usize,
+    tick: usize,
+    before: [Seen; PLACES],
+    after: [Seen; PLACES],
+    late: Option<Late>,
+}
+
+pub struct Explain {
+    paint: Paint,
+    ticks: Option<Ticks>,
+    late: Option<Late>,
+    text: String,
+}
+
+impl Explain {
+    pub fn new(paint: Paint) -> Explain {
+        Explain { paint, ticks: None, late: None, text: String::new() }
+    }
+
+    pub fn note(&mut self, moment: &Moment) {
+        self.late = self.late.or(moment.late);
+        if moment.command() == Some(Command::Tick) {
+            return self.tick(moment);
+        }
+        self.put_ticks();
+        self.put(&play::line(&moment.turn), &meaning(moment), moment.accepted());
+    }
+
+    /// The whole text, with the last line.
+    pub fn end(mut self, last: &str) -> String {
+        self.put_ticks();
+        let why = match &self.late {
+            Some(late) => words::late(late),
+            None => words::KEPT.into(),
+        };
+        self.put(last, &why, self.late.is_none());
+        self.text
+    }
+
+    fn put(&mut self, line: &str, meaning: &str, good: bool) {
+        let blanks = " ".repeat(COLUMN.saturating_sub(line.len()).max(2));
+        let meaning = if good { meaning.into() } else { self.paint.red(meaning) };
+        self.text += &format!("{}{blanks}{meaning}\n", self.paint.faint(line));
+    }
+
+    fn tick(&mut self, moment: &Moment) {
+        let count = moment.turn.count;
+        let ticks = self.ticks.get_or_insert(Ticks {
+            first: count,
+            last: count,
+            tick: moment.tick,
+            before: moment.before,
+            after: moment.after,
+            late: None,
+        });
+        (ticks.last, ticks.tick, ticks.after) = (count, moment.tick, moment.after);
+        ticks.late = ticks.late.or(moment.late);
+    }
+
+    fn put_ticks(&mut self) {
+        let Some(ticks) = self.ticks.take() else { return };
+        let Ticks { first, last, tick, .. } = ticks;
+        let line =
+            if first == last { format!("{first} 05 ok") } else { format!("{first}-{last} 05 ok") };
+        let mut meaning = match last - first {
+            0 => format!("a tick, tick {tick}"),
+            more => format!("{} ticks, up to tick {tick}", more + 1),
+        };
+        let due = |i: &usize| ticks.before[*i].due.is_none() && ticks.after[*i].due.is_some();
+        let due: Vec<usize> = (0..PLACES).filter(due).collect();
+        if let Some(frame) = due.first().and_then(|&i| ticks.after[i].due) {
+            meaning += &format!("; {} is due now at {}", words::short(&frame), words::nodes(&due));
+        }
+        if let Some(late) = &ticks.late {
+            meaning += &format!("; {}", words::late(late));
+        }
+        self.put(&line, &meaning, ticks.late.is_none());
+    }
+}
+
+/// What a command that is no tick did.
+fn meaning(moment: &Moment) -> String {
+    match (moment.turn.read, moment.turn.answer) {
+        (Read::Unknown, _) => {
+            format!("{:02X} is no command: {}", moment.turn.byte, words::refusal(10))
+        }
+        (Read::Cut(size), _) => {
+            let byte = moment.turn.byte;
+            format!(
+                "command {byte:02X} has {size} bytes, and not all are there: {}",
+                words::refusal(11)
+            )
+        }
+        (Read::Whole(command, _), Answer::Refused(number)) => {
+            format!("{}: refused, {}", wanted(&command), words::refusal(number))
+        }
+        (Read::Whole(command, _), _) => done(&command, moment),
+    }
+}
+
+/// What a command asks for.
+fn wanted(command: &Command) -> String {
+    match *command {
+        Command::On { index, id } => {
+            format!("power on node {index} with Node ID {}", dotted_id(id))
+        }
+        Command::Send { index } => format!("node {index} shall send"),
+        Command::Fail { index } => format!("a send of node {index} shall fail"),
+        Command::Deliver { index } => format!("node {index} shall take a frame from its inbox"),
+        Command::Tick => "a tick".into(),
+        Command::Foreign(frame) => format!("foreign {}", words::frame(&frame)),
+        Command::Message { index, field, len, data } => {
+            format!(
+                "the host of node {index} orders message {field:04X}{}",
+                message_data(len, &data)
+            )
+        }
+        Command::Enquiry { index, len: 0, .. } => {
+            format!("the host of node {index} orders an enquiry for all")
+        }
+        Command::Enquiry { index, len: 6, id } => {
+            format!("the host of node {index} orders an enquiry for Node ID {}", dotted_id(id))
+        }
+        Command::Enquiry { index, len, .. } => {
+            format!("the host of node {index} orders an enquiry of length {len}")
+        }
+        Command::Release { index } => format!("the host of node {index} releases its alias"),
+    }
+}
+
+fn message_data(len: u8, data: &[u8; 8]) -> String {
+    match len {
+        0 => String::new(),
+        1..=8 => format!(", data {}", joined(&data[..len.into()], ".")),
+        _ => format!(", length {len}"),
+    }
+}
+
+/// What a command that was accepted did, by what the nodes show before and after it.
+fn done(command: &Command, moment: &Moment) -> String {
+    let index = moment.node().unwrap_or(0);
+    let (before, after) = (&moment.before[index], &moment.after[index]);
+    match command {
+        Command::On { .. } => powered(command, before, after),
+        Command::Send { .. } => sent(moment, index),
+        Command::Fail { .. } => failed(moment, index),
+        Command::Deliver { .. } => delivered(moment, index),
+        Command::Tick => String::new(),
+        Command::Foreign(_) => format!("{}: {}", wanted(command), joins(moment.joined())),
+        Command::Message { .. } | Command::Enquiry { .. } => {
+            let first = before.due.is_none();
+            format!(
+                "{}: it {}",
+                wanted(command),
+                if first { "is due" } else { "waits behind what is due" }
+            )
+        }
+        Command::Release { .. } => {
+            format!("{}: {}{}", wanted(command), words::standing(after), now_due(after))
+        }
+    }
+}
+
+fn powered(command: &Command, before: &Seen, after: &Seen) -> String {
+    let dropped = match before.inbox {
+        0 => String::new(),
+        frames => {
+            format!("; {} dropped from its inbox", words::count(frames, "frame is", "frames are"))
+        }
+    };
+    let again = if before.state == State::Off { "" } else { ", which was on" };
+    format!("{}{again}: {}{}{dropped}", wanted(command), words::standing(after), now_due(after))
+}
+
+fn sent(moment: &Moment, index: usize) -> String {
+    let Answer::Sent(frame) = moment.turn.answer else { return String::new() };
+    let (before, after) = (&moment.before[index], &moment.after[index]);
+    let change = if moment.restarted(index) {
+        format!("; it starts again, {}{}", words::standing(after), now_due(after))
+    } else if before.state != after.state {
+        format!("; it is {}{}", words::standing(after), now_due(after))
+    } else if after.due.is_none() && after.state == State::Testing {
+        "; now it waits".into()
+    } else {
+        String::new()
+    };
+    format!("node {index} sends {}: {}{change}", words::frame(&frame), joins(moment.joined()))
+}
+
+fn failed(moment: &Moment, index: usize) -> String {
+    let (before, after) = (&moment.before[index], &moment.after[index]);
+    let frame = before.due.map_or("its frame".into(), |frame: Frame| words::frame(&frame));
+    if moment.restarted(index) {
+        format!(
+            "node {index} could not send {frame}: it starts again, {}{}",
+            words::standing(after),
+            now_due(after)
+        )
+    } else {
+        format!("node {index} could not send {frame}: it stays due")
+    }
+}
+
+fn delivered(moment: &Moment, index: usize) -> String {
+    let Some(arrival) = moment.delivered else { return format!("node {index} takes a frame") };
+    let (before, after) = (&moment.before[index], &moment.after[index]);
+    let effect = if moment.restarted(index) {
+        format!("collision, it starts again, {}{}", words::standing(after), now_due(after))
+    } else if before.state != after.state {
+        format!("collision, it is {}{}", words::standing(after), now_due(after))
+    } else if before.due != after.due {
+        format!(
+            "an answer to it is due{}",
+            after.due.map_or(String::new(), |f| format!(", {}", words::short(&f)))
+        )
+    } else if before.state == State::Permitted && before.due.is_some() {
+        "what is due stays as it was".into()
+    } else {
+        "no effect".into()
+    };
+    let from = words::sender(arrival.from);
+    format!("node {index} takes {}, from {from}: {effect}", words::frame(&arrival.frame))
+}
+
+/// The frame that is due, for the end of a sentence.
+fn now_due(seen: &Seen) -> String {
+    seen.due.map_or(String::new(), |frame| format!("; {} is due", words::short(&frame)))
+}
+
+fn joins(inboxes: usize) -> String {
+    match inboxes {
+        0 => "it joins no inbox".into(),
+        _ => format!("it joins {}", words::count(inboxes, "inbox", "inboxes")),
+    }
+}

@@ -1,0 +1,118 @@
+//! A frame: its kind, header, length and data, and how a header is read.
+
+/// The kinds of frames, as command 06 numbers them.
+pub const EXTENDED: u8 = 0;
+pub const REMOTE: u8 = 1;
+pub const ELEVEN_BIT: u8 = 2;
+
+/// Bit 28, which is sent as 1, and bit 27, which a message has.
+const BIT_28: u32 = 1 << 28;
+const MESSAGE: u32 = 1 << 27;
+const HEADER_MAX: u32 = (1 << 29) - 1;
+
+/// The duplicate report's field and data, as the standard prints them.
+const REPORT_FIELD: u16 = 0x15B4;
+const REPORT_DATA: [u8; 7] = [0x01, 0x01, 0x00, 0x00, 0x00, 0x02, 0x01];
+
+/// As a script carries it: the length may be any byte, and bytes past the length may be anything.
+#[derive(Clone, Copy, Debug, PartialEq, Eq)]
+pub struct Frame {
+    pub kind: u8,
+    pub header: u32,
+    pub len: u8,
+    pub data: [u8; 8],
+}
+
+/// What type and field of an extended header say.
+#[derive(Clone, Copy, Debug, PartialEq, Eq)]
+pub enum Sort {
+    /// Its number and its Node ID section.
+    Cid(u8, u16),
+    Rid,
+    Amd,
+    Ame,
+    Amr,
+    ErrorReport(u8),
+    Reserved(u16),
+    Message(u16),
+}
+
+impl Sort {
+    /// The sort of a header of 29 bits; bit 28 is ignored.
+    pub fn of_header(header: u32) -> Sort {
+        let field = (header >> 12 & 0x7FFF) as u16;
+        if header & MESSAGE != 0 {
+            return Sort::Message(field);
+        }
+        match field {
+            0x1000..=0x7FFF => Sort::Cid((field >> 12) as u8, field & 0xFFF),
+            0x0700 => Sort::Rid,
+            0x0701 => Sort::Amd,
+            0x0702 => Sort::Ame,
+            0x0703 => Sort::Amr,
+            0x0710..=0x0713 => Sort::ErrorReport((field & 3) as u8),
+            _ => Sort::Reserved(field),
+        }
+    }
+
+    /// The header of this sort under an alias, with bit 28 as it is sent.
+    pub fn header(self, alias: u16) -> u32 {
+        let (kind, field) = match self {
+            Sort::Cid(number, section) => (0, u16::from(number) << 12 | section),
+            Sort::Rid => (0, 0x0700),
+            Sort::Amd => (0, 0x0701),
+            Sort::Ame => (0, 0x0702),
+            Sort::Amr => (0, 0x0703),
+            Sort::ErrorReport(number) => (0, 0x0710 | u16::from(number)),
+            Sort::Reserved(field) => (0, field),
+            Sort::Message(field) => (MESSAGE, field),
+        };
+        BIT_28 | kind | u32::from(field) << 12 | u32::from(alias)
+    }
+
+    /// Whether frames of this sort carry a Node ID as their data.
+    pub fn carries_id(self) -> bool {
+        matches!(self, Sort::Amd | Sort::Ame | Sort::Amr)
+    }
+
+    /// Its short name, without section and field.
+    pub fn name(self) -> String {
+        match self {
+            Sort::Cid(number, _) => format!("CID {number}"),
+            Sort::Rid => "RID".into(),
+            Sort::Amd => "AMD".into(),
+            Sort::Ame => "AME".into(),
+            Sort::Amr => "AMR".into(),
+            Sort::ErrorReport(number) => format!("error report {number}"),
+            Sort::Reserved(_) => "reserved frame".into(),
+            Sort::Message(_) => "message".into(),
+        }
+    }
+}
+
+impl Frame {
+    /// The frame that words of the library stand for: the data is one number, the first byte highest.
+    pub fn of_words(kind: u8, header: u64, len: u64, data: u64) -> Frame {
+        Frame { kind, header: header as u32, len: len as u8, data: data.to_be_bytes() }
+    }
+
+    /// The data bytes that the length counts, eight at most.
+    pub fn bytes(&self) -> &[u8] {
+        &self.data[..usize::from(self.len.min(8))]
+    }
+
+    /// What it is, where it is an extended frame with a header of 29 bits.
+    pub fn sort(&self) -> Option<Sort> {
+        (self.kind == EXTENDED && self.header <= HEADER_MAX).then(|| Sort::of_header(self.header))
+    }
+
+    /// The alias of its sender.
+    pub fn alias(&self) -> u16 {
+        (self.header & 0xFFF) as u16
+    }
+
+    /// Whether it reports that a Node ID is there twice: by its field and by its data.
+    pub fn is_duplicate_report(&self) -> bool {
+        self.sort() == Some(Sort::Message(REPORT_FIELD)) && self.bytes() == REPORT_DATA
+    }
+}

@@ -1,0 +1,21 @@
+//! What the tool `lcc` is made of. It has no behaviour of its own: every answer and every state comes from the proved library.
+
+pub mod actions;
+pub mod card;
+pub mod command;
+pub mod expand;
+pub mod explain;
+pub mod frame;
+pub mod hex;
+pub mod listing;
+pub mod names;
+pub mod paint;
+pub mod picture;
+pub mod play;
+pub mod progress;
+pub mod script;
+pub mod spell;
+pub mod summary;
+pub mod usage;
+pub mod watch;
+pub mod words;

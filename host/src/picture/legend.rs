@@ -1,0 +1,45 @@
+//! What the signs of a drawing mean.
+
+use super::draw::fold_mark;
+use super::style::class_of;
+use super::svg::{Anchor, Svg};
+use crate::card::State;
+
+pub const HEIGHT: f64 = 50.0;
+
+/// Two rows: the states, then the other signs.
+pub fn draw(svg: &mut Svg, left: f64, top: f64) {
+    let mut x = left;
+    for state in &State::ALL[1..] {
+        svg.rect(x, top, 26.0, 14.0, class_of(*state));
+        svg.text(x + 32.0, top + 11.0, "", Anchor::Start, state.name());
+        x += 112.0;
+    }
+    svg.text(
+        x + 6.0,
+        top + 11.0,
+        "small",
+        Anchor::Start,
+        "three digits on a band: the alias in test or in use",
+    );
+    signs(svg, left, top + 30.0);
+}
+
+fn signs(svg: &mut Svg, left: f64, y: f64) {
+    let text = |svg: &mut Svg, x: f64, text: &str| svg.text(x, y + 4.0, "", Anchor::Start, text);
+    svg.cross(left + 8.0, y, 4.5);
+    text(svg, left + 20.0, "collision: a frame with its alias was delivered");
+    svg.rect(left + 271.0, y - 4.0, 3.2, 8.0, "hit");
+    svg.line((left + 274.0, y), (left + 286.0, y), "lead");
+    svg.circle(left + 290.0, y, 3.4, "ring");
+    text(svg, left + 300.0, "that frame, and its sender");
+    svg.circle(left + 462.0, y, 5.5, "restart");
+    svg.text(left + 462.0, y + 3.2, "small", Anchor::Middle, "R");
+    text(svg, left + 474.0, "starts again otherwise");
+    svg.rect(left + 614.0, y - 4.0, 2.0, 8.0, "frame");
+    text(svg, left + 622.0, "frame of an exhibit");
+    svg.rect(left + 736.0, y - 4.0, 5.0, 8.0, "foreign");
+    text(svg, left + 747.0, "foreign frame");
+    fold_mark(svg, left + 846.0, y - 8.0, y + 8.0);
+    text(svg, left + 858.0, "ticks in which nothing happens");
+}

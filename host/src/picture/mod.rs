@@ -1,0 +1,12 @@
+//! A drawing of a run: a line for each exhibit over time, its states as bands, the frames on the bus above.
+
+mod axis;
+mod draw;
+mod lanes;
+mod legend;
+mod record;
+mod style;
+mod svg;
+
+pub use draw::draw;
+pub use record::Record;

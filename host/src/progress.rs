@@ -1,0 +1,40 @@
+//! How far a run is, on standard error where that is a terminal, once it takes more than a second.
+
+use std::io::{self, IsTerminal, Write};
+use std::time::{Duration, Instant};
+
+const FIRST: Duration = Duration::from_secs(1);
+const NEXT: Duration = Duration::from_millis(100);
+
+pub struct Progress {
+    total: usize,
+    next: Instant,
+    shown: bool,
+    shows: bool,
+}
+
+impl Progress {
+    /// Of so many bytes.
+    pub fn new(total: usize) -> Progress {
+        let shows = io::stderr().is_terminal();
+        Progress { total, next: Instant::now() + FIRST, shown: false, shows }
+    }
+
+    /// So many bytes have been carried out.
+    pub fn at(&mut self, done: usize) {
+        if !self.shows || Instant::now() < self.next {
+            return;
+        }
+        self.next = Instant::now() + NEXT;
+        self.shown = true;
+        let percent = 100 * done / self.total.max(1);
+        let _ = write!(io::stderr(), "\rlcc: {percent} % of {} bytes carried out", self.total);
+    }
+
+    /// Leaves nothing on the line.
+    pub fn end(&self) {
+        if self.shown {
+            let _ = write!(io::stderr(), "\r{:60}\r", "");
+        }
+    }
+}

@@ -1,0 +1,215 @@
+//! The table at the end of a run: a row for each exhibit, its collisions, and whether the list was kept.
+
+use crate::card::{Card, Seen, State, PLACES};
+use crate::hex::dotted_id;
+use crate::paint::Paint;
+use crate::watch::{Arrival, Late, Moment};
+use crate::words;
+
+/// Of collisions, so many are named one by one.
+const NAMED: usize = 10;
+
+/// When a node came to the alias that it has, and how often it started again.
+#[derive(Clone, Copy, Debug, Default, PartialEq, Eq)]
+struct Row {
+    reserved: Option<usize>,
+    permitted: Option<usize>,
+    restarts: usize,
+}
+
+/// A node that was delivered a frame with its own alias, and gave that alias up.
+#[derive(Clone, Copy, Debug, PartialEq, Eq)]
+pub struct Collision {
+    pub index: usize,
+    pub tick: usize,
+    pub arrival: Arrival,
+    pub after: Seen,
+}
+
+impl Collision {
+    pub fn of(moment: &Moment) -> Option<Collision> {
+        let index = moment.node().filter(|&index| moment.collided(index))?;
+        let (arrival, after) = (moment.delivered?, moment.after[index]);
+        Some(Collision { index, tick: moment.tick, arrival, after })
+    }
+
+    pub fn words(&self) -> String {
+        let Collision { index, tick, arrival, after } = self;
+        let frame = format!("{} of {}", words::short(&arrival.frame), words::sender(arrival.from));
+        let alias = arrival.frame.alias();
+        let then = match after.state {
+            State::Leaving => "it gives the alias up".into(),
+            _ => format!("it starts again with {:03X}", after.alias),
+        };
+        format!("node {index} at tick {tick}: {frame} has its alias {alias:03X}; {then}")
+    }
+}
+
+#[derive(Default)]
+pub struct Summary {
+    rows: [Row; PLACES],
+    collisions: Vec<Collision>,
+    commands: usize,
+    refused: usize,
+    ticks: usize,
+    frames: usize,
+    late: Option<Late>,
+}
+
+impl Summary {
+    pub fn note(&mut self, moment: &Moment) {
+        self.commands += 1;
+        self.refused += usize::from(!moment.accepted());
+        self.ticks = moment.tick;
+        self.frames += usize::from(moment.on_the_bus().is_some());
+        self.collisions.extend(Collision::of(moment));
+        self.late = self.late.or(moment.late);
+        for (index, row) in self.rows.iter_mut().enumerate() {
+            let (before, after) = (moment.before[index].state, moment.after[index].state);
+            if moment.restarted(index) {
+                *row = Row { restarts: row.restarts + 1, ..Row::default() };
+            } else if moment.node() == Some(index)
+                && after == State::Testing
+                && moment.turn.byte == 1
+            {
+                *row = Row::default();
+            }
+            if before != after {
+                row.reserved = row.reserved.or((after == State::Reserved).then_some(moment.tick));
+                row.permitted =
+                    row.permitted.or((after == State::Permitted).then_some(moment.tick));
+            }
+        }
+    }
+
+    /// The table and what is below it.
+    pub fn text(&self, card: &Card, paint: Paint) -> String {
+        let seen = card.look_at_all();
+        let mut text = String::from("\n");
+        text += &paint.bold(&cells(&HEAD.map(String::from)));
+        text += "\n";
+        for (from, to) in rows(&seen) {
+            text += &self.row(from, to, &seen[from], paint);
+        }
+        text += &format!("\n{}\n", totals(&seen));
+        text += &self.collisions_text();
+        let (commands, refused) =
+            (words::count(self.commands, "command", "commands"), self.refused);
+        let (ticks, frames) = (words::count(self.ticks, "tick", "ticks"), self.frames);
+        text += &format!(
+            "{commands}, {refused} of them refused; {ticks}; {} on the bus.\n",
+            words::count(frames, "frame", "frames")
+        );
+        text + &self.verdict(paint) + "\n"
+    }
+
+    fn row(&self, from: usize, to: usize, seen: &Seen, paint: Paint) -> String {
+        let index = if from == to { from.to_string() } else { format!("{from}-{to}") };
+        let row = &self.rows[from];
+        let none = || "-".to_string();
+        let at = |tick: Option<usize>| tick.map_or_else(none, |tick| format!("tick {tick}"));
+        let off = seen.state == State::Off;
+        let cell = |text: String| if off { none() } else { text };
+        let line = cells(&[
+            index,
+            cell(dotted_id(seen.id)),
+            seen.state.name().into(),
+            if seen.alias == 0 { none() } else { format!("{:03X}", seen.alias) },
+            at(row.reserved),
+            at(row.permitted),
+            cell(row.restarts.to_string()),
+            seen.due.map_or_else(none, |frame| words::short(&frame)),
+            cell(seen.inbox.to_string()),
+        ]);
+        let line = match seen.state {
+            State::Permitted => paint.green(&line),
+            State::Off | State::Resting => paint.faint(&line),
+            State::Leaving | State::Silent => paint.red(&line),
+            State::Testing | State::Reserved => line,
+        };
+        line + "\n"
+    }
+
+    fn collisions_text(&self) -> String {
+        let count = self.collisions.len();
+        if count == 0 {
+            return "No collisions.\n".into();
+        }
+        let mut text = format!("{}:\n", words::count(count, "collision", "collisions"));
+        for collision in self.collisions.iter().take(NAMED) {
+            text += &format!("  {}\n", collision.words());
+        }
+        if count > NAMED {
+            text += &format!("  and {} more\n", count - NAMED);
+        }
+        text
+    }
+
+    fn verdict(&self, paint: Paint) -> String {
+        match &self.late {
+            Some(late) => paint.red(&words::late(late)),
+            None => paint.green(&format!("kept: {}", words::KEPT)),
+        }
+    }
+}
+
+const HEAD: [&str; 9] =
+    ["node", "Node ID", "state", "alias", "reserved", "Permitted", "restarts", "due", "inbox"];
+const WIDTHS: [usize; 9] = [5, 17, 9, 5, 10, 10, 8, 8, 5];
+
+/// Cells side by side; without blanks at the end.
+fn cells(cells: &[String; 9]) -> String {
+    let padded = cells.iter().zip(WIDTHS).map(|(cell, width)| format!("{cell:<width$}"));
+    padded.collect::<Vec<_>>().join("  ").trim_end().into()
+}
+
+/// The nodes, each a row, but those in a row that are Off together.
+fn rows(seen: &[Seen; PLACES]) -> Vec<(usize, usize)> {
+    let mut rows: Vec<(usize, usize)> = Vec::new();
+    for (index, node) in seen.iter().enumerate() {
+        match rows.last_mut() {
+            Some((from, to)) if node.state == State::Off && seen[*from].state == State::Off => {
+                *to = index
+            }
+            _ => rows.push((index, index)),
+        }
+    }
+    rows
+}
+
+/// How many nodes are on and in which states, and whether two of them use one alias.
+pub fn totals(seen: &[Seen; PLACES]) -> String {
+    let on = seen.iter().filter(|node| node.state != State::Off).count();
+    if on == 0 {
+        return "No node is on.".into();
+    }
+    let states = State::ALL[1..].iter().map(|&state| {
+        let count = seen.iter().filter(|node| node.state == state).count();
+        (count > 0).then(|| format!("{count} {}", state.name()))
+    });
+    let states: Vec<String> = states.flatten().collect();
+    format!(
+        "{} on: {}; {}.",
+        words::count(on, "node", "nodes"),
+        states.join(", "),
+        aliases_in_use(seen)
+    )
+}
+
+/// A node uses its alias in Reserved, Permitted and Leaving.
+fn aliases_in_use(seen: &[Seen; PLACES]) -> String {
+    let uses =
+        |node: &&Seen| matches!(node.state, State::Reserved | State::Permitted | State::Leaving);
+    let mut used: Vec<u16> = seen.iter().filter(uses).map(|node| node.alias).collect();
+    let users = used.len();
+    used.sort_unstable();
+    used.dedup();
+    match (users, used.len()) {
+        (0, _) => "none uses an alias".into(),
+        (1, _) => "one uses an alias".into(),
+        (users, aliases) if users == aliases => {
+            format!("{aliases} aliases in use, no two the same")
+        }
+        (users, aliases) => format!("{users} use {aliases} aliases: TWO USE ONE"),
+    }
+}

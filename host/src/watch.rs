@@ -1,0 +1,199 @@
+//! What a run shows: all nodes before and after each command, when each frame came into an inbox, and what made a list late.
+
+use std::collections::VecDeque;
+
+use crate::card::{Answer, Card, Seen, State, PLACES};
+use crate::command::{Command, Read};
+use crate::frame::{Frame, Sort};
+use crate::play::Turn;
+
+/// Who put a frame on the bus.
+#[derive(Clone, Copy, Debug, PartialEq, Eq)]
+pub enum Sender {
+    Node(usize),
+    Foreign,
+}
+
+/// A frame in an inbox: from whom, after how many ticks and by which command it came.
+#[derive(Clone, Copy, Debug, PartialEq, Eq)]
+pub struct Arrival {
+    pub frame: Frame,
+    pub from: Sender,
+    pub tick: usize,
+    pub count: usize,
+}
+
+/// A reply RID or an AMR that is due, and since when.
+#[derive(Clone, Copy, Debug, PartialEq, Eq)]
+pub struct Owed {
+    pub frame: Frame,
+    pub tick: usize,
+    pub count: usize,
+}
+
+/// What had stood or waited too long.
+#[derive(Clone, Copy, Debug, PartialEq, Eq)]
+pub enum Overdue {
+    Inbox(Arrival),
+    Due(Owed),
+}
+
+impl Overdue {
+    fn since(&self) -> usize {
+        match self {
+            Overdue::Inbox(arrival) => arrival.tick,
+            Overdue::Due(owed) => owed.tick,
+        }
+    }
+}
+
+/// The command by which a list became late, and the oldest frame then; `others` are as old as it.
+#[derive(Clone, Copy, Debug, PartialEq, Eq)]
+pub struct Late {
+    pub tick: usize,
+    pub count: usize,
+    pub index: usize,
+    pub what: Overdue,
+    pub others: usize,
+}
+
+/// One command with all that it did. `tick` counts the ticks up to it, a tick itself included.
+pub struct Moment {
+    pub turn: Turn,
+    pub tick: usize,
+    pub before: [Seen; PLACES],
+    pub after: [Seen; PLACES],
+    /// The frame that was taken from an inbox.
+    pub delivered: Option<Arrival>,
+    /// Set where the list became late by this command.
+    pub late: Option<Late>,
+}
+
+impl Moment {
+    pub fn command(&self) -> Option<Command> {
+        match self.turn.read {
+            Read::Whole(command, _) => Some(command),
+            Read::Unknown | Read::Cut(_) => None,
+        }
+    }
+
+    pub fn accepted(&self) -> bool {
+        !matches!(self.turn.answer, Answer::Refused(_))
+    }
+
+    /// The node that the command names, where there is such a node.
+    pub fn node(&self) -> Option<usize> {
+        self.command()?.index().map(usize::from).filter(|&index| index < PLACES)
+    }
+
+    /// The frame that came onto the bus, and from whom.
+    pub fn on_the_bus(&self) -> Option<(Frame, Sender)> {
+        match (self.command()?, self.turn.answer) {
+            (Command::Foreign(frame), Answer::Accepted) => Some((frame, Sender::Foreign)),
+            (Command::Send { index }, Answer::Sent(frame)) => {
+                Some((frame, Sender::Node(index.into())))
+            }
+            _ => None,
+        }
+    }
+
+    /// How many inboxes have a frame more.
+    pub fn joined(&self) -> usize {
+        (0..PLACES).filter(|&i| self.after[i].inbox > self.before[i].inbox).count()
+    }
+
+    /// Whether a node was started again with its next alias. Power-on is no such start.
+    pub fn restarted(&self, index: usize) -> bool {
+        let (before, after) = (&self.before[index], &self.after[index]);
+        let command = self.command();
+        let powered = matches!(command, Some(Command::On { .. }));
+        // The next alias may be the same again; then only the due frame shows it.
+        let may_restart = matches!(command, Some(Command::Deliver { .. } | Command::Fail { .. }));
+        let same_alias = before.state == State::Testing && before.alias == after.alias;
+        let anew = !same_alias || may_restart && before.due != after.due;
+        !powered && before.state != State::Off && after.state == State::Testing && anew
+    }
+
+    /// Whether a frame with the node's alias was delivered to it, and it gave that alias up.
+    pub fn collided(&self, index: usize) -> bool {
+        let leaves =
+            self.before[index].state != State::Leaving && self.after[index].state == State::Leaving;
+        self.delivered.is_some() && self.node() == Some(index) && (leaves || self.restarted(index))
+    }
+}
+
+/// Looks at the card after each command.
+#[derive(Default)]
+pub struct Watch {
+    seen: [Seen; PLACES],
+    inboxes: [VecDeque<Arrival>; PLACES],
+    owed: [Option<Owed>; PLACES],
+    tick: usize,
+    late: bool,
+}
+
+impl Watch {
+    /// What the command of this turn did to the card.
+    pub fn look(&mut self, turn: &Turn, card: &Card) -> Moment {
+        let after = card.look_at_all();
+        let before = std::mem::replace(&mut self.seen, after);
+        self.tick += usize::from(matches!(turn.read, Read::Whole(Command::Tick, _)));
+        let mut moment =
+            Moment { turn: *turn, tick: self.tick, before, after, delivered: None, late: None };
+        moment.delivered = self.inboxes(&moment, card);
+        self.owed(&moment);
+        if !self.late && card.is_late() {
+            self.late = true;
+            moment.late = self.oldest(turn.count);
+        }
+        moment
+    }
+
+    /// Brings the record of inboxes up to what the card has; gives the frame that a delivery took.
+    fn inboxes(&mut self, moment: &Moment, card: &Card) -> Option<Arrival> {
+        let mut taken = None;
+        let from = moment.on_the_bus().map_or(Sender::Foreign, |(_, from)| from);
+        for (index, inbox) in self.inboxes.iter_mut().enumerate() {
+            while inbox.len() > moment.after[index].inbox {
+                taken = inbox.pop_front();
+            }
+            while let Some(frame) = card.inbox(index, inbox.len()) {
+                inbox.push_back(Arrival { frame, from, tick: self.tick, count: moment.turn.count });
+            }
+        }
+        taken.filter(|_| matches!(moment.command(), Some(Command::Deliver { .. })))
+    }
+
+    /// Since when each node has had a reply RID or an AMR due.
+    fn owed(&mut self, moment: &Moment) {
+        for (owed, seen) in self.owed.iter_mut().zip(&moment.after) {
+            let now = seen.due.filter(|frame| has_an_age(seen.state, frame));
+            if owed.map(|owed| owed.frame) != now {
+                *owed = now.map(|frame| Owed { frame, tick: self.tick, count: moment.turn.count });
+            }
+        }
+    }
+
+    /// The oldest of all frames that have an age.
+    fn oldest(&self, count: usize) -> Option<Late> {
+        let stood = self.inboxes.iter().enumerate();
+        let stood = stood
+            .flat_map(|(i, inbox)| inbox.iter().map(move |arrival| (i, Overdue::Inbox(*arrival))));
+        let waited = self.owed.iter().enumerate();
+        let waited = waited.filter_map(|(i, owed)| owed.map(|owed| (i, Overdue::Due(owed))));
+        let all: Vec<(usize, Overdue)> = stood.chain(waited).collect();
+        let since = all.iter().map(|(_, what)| what.since()).min()?;
+        let mut oldest = all.iter().filter(|(_, what)| what.since() == since);
+        let &(index, what) = oldest.next()?;
+        Some(Late { tick: self.tick, count, index, what, others: oldest.count() })
+    }
+}
+
+/// Of due frames, a reply RID and an AMR have an age; the RID that reserves an alias has none.
+fn has_an_age(state: State, frame: &Frame) -> bool {
+    match state {
+        State::Reserved | State::Permitted => frame.sort() == Some(Sort::Rid),
+        State::Leaving => frame.sort() == Some(Sort::Amr),
+        State::Off | State::Testing | State::Resting | State::Silent => false,
+    }
+}

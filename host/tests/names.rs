@@ -1,0 +1,224 @@
+//! Scripts of either form to bytes and back, and wrong lines of every kind.
+
+mod random;
+
+use lcc::expand::expand;
+use lcc::{listing, script, spell};
+use random::Random;
+
+fn bytes_of(text: &str) -> Vec<u8> {
+    expand(&script::parse(text).unwrap_or_else(|faults| panic!("{faults:?} in\n{text}"))).bytes
+}
+
+/// By name to bytes, those to hex and by name again, and both to the same bytes.
+#[test]
+fn ten_thousand_random_scripts_there_and_back() {
+    let (mut bytes_seen, mut ends_seen) = (0, 0);
+    for seed in 0..10_000 {
+        let text = random::script(&mut Random::new(seed));
+        let bytes = bytes_of(&text);
+        let (hex, names) = (listing::listing(&bytes), spell::script(&bytes));
+        assert_eq!(bytes_of(&hex), bytes, "in hex, seed {seed}:\n{text}");
+        assert_eq!(bytes_of(&names), bytes, "by name, seed {seed}:\n{text}");
+        assert_eq!(spell::script(&bytes_of(&names)), names, "seed {seed}");
+        bytes_seen += bytes.len();
+        ends_seen += usize::from(names.contains("bytes"));
+    }
+    assert!(bytes_seen > 1_000_000 && ends_seen > 500, "{bytes_seen} bytes, {ends_seen} ends");
+}
+
+/// Bytes that nobody wrote by name: every operand byte comes back.
+#[test]
+fn random_bytes_there_and_back() {
+    let mut random = Random::new(1);
+    for _ in 0..10_000 {
+        let length = random.below(60);
+        let byte = |random: &mut Random| if random.below(3) > 0 { random.below(11) } else { random.below(256) } as u8;
+        let bytes: Vec<u8> = (0..length).map(|_| byte(&mut random)).collect();
+        assert_eq!(bytes_of(&spell::script(&bytes)), bytes, "by name: {bytes:02X?}");
+        assert_eq!(bytes_of(&listing::listing(&bytes)), bytes, "in hex: {bytes:02X?}");
+    }
+}
+
+/// Each command's form, and the bytes that document 01 gives it.
+#[test]
+fn each_form_has_its_bytes() {
+    let forms = [
+        ("on 0 05.01.01.01.01.01", "01 00 05 01 01 01 01 01"),
+        ("send 0", "02 00"),
+        ("fail 23", "03 17"),
+        ("deliver 255", "04 FF"),
+        ("tick", "05"),
+        ("tick 3", "05 05 05"),
+        ("foreign AMD 263 05.01.01.01.01.01", "06 00 10 70 12 63 06 05 01 01 01 01 01 00 00"),
+        ("foreign 17050263", "06 00 17 05 02 63 00 00 00 00 00 00 00 00 00"),
+        ("foreign CID 7 263 050", "06 00 17 05 02 63 00 00 00 00 00 00 00 00 00"),
+        ("foreign RID 263", "06 00 10 70 02 63 00 00 00 00 00 00 00 00 00"),
+        ("foreign AME 263", "06 00 10 70 22 63 00 00 00 00 00 00 00 00 00"),
+        ("foreign AMR 1 050101010101", "06 00 10 70 30 01 06 05 01 01 01 01 01 00 00"),
+        ("foreign error 3 263", "06 00 10 71 32 63 00 00 00 00 00 00 00 00 00"),
+        ("foreign message 15B4 263 07", "06 00 19 5B 42 63 01 07 00 00 00 00 00 00 00"),
+        ("foreign remote 17050263", "06 01 17 05 02 63 00 00 00 00 00 00 00 00 00"),
+        ("foreign short 123 0707", "06 02 00 00 01 23 02 07 07 00 00 00 00 00 00"),
+        ("foreign kind 3 17050263 01 length 9", "06 03 17 05 02 63 09 01 00 00 00 00 00 00 00"),
+        ("message 0 15B4 01020304", "07 00 15 B4 04 01 02 03 04 00 00 00 00"),
+        ("message 0 5B4 AB CD length 1", "07 00 05 B4 01 AB CD 00 00 00 00 00 00"),
+        ("enquiry 0", "08 00 00 00 00 00 00 00 00"),
+        ("enquiry 0 05.01.01.01.01.02", "08 00 06 05 01 01 01 01 02"),
+        ("enquiry 0 05.01.01.01.01.02 length 5", "08 00 05 05 01 01 01 01 02"),
+        ("release 0", "09 00"),
+        ("bytes FF 01", "FF 01"),
+        ("send all", ""),
+        ("deliver all", ""),
+        ("settle 2", "05 05"),
+    ];
+    for (name, hex) in forms {
+        assert_eq!(bytes_of(name), bytes_of(hex), "{name}");
+    }
+}
+
+/// `all` and `settle` stand for the commands that the card gives occasion for.
+#[test]
+fn all_goes_by_what_the_card_holds() {
+    let on = "on 2 05.01.01.01.01.01\non 0 05.01.01.01.01.02\n";
+    let by_hand = |lines: &str| bytes_of(&(on.to_string() + lines));
+    assert_eq!(by_hand("send all"), by_hand("send 0\nsend 2"));
+    assert_eq!(
+        by_hand("send all\nsend 0\ndeliver all"),
+        by_hand("send 0\nsend 2\nsend 0\ndeliver 0\ndeliver 2\ndeliver 2")
+    );
+    let tick = "deliver 0\ndeliver 2\nsend 0\nsend 2\ntick\n";
+    assert_eq!(by_hand("settle 2"), by_hand(&format!("send 0\nsend 2\ntick\n{tick}")));
+}
+
+/// A line that is wrong is named, with what was wrong and what was expected.
+#[test]
+fn wrong_lines_by_name() {
+    let wrong = [
+        ("sned 0", "\"sned\" is no command; expected one of on, send"),
+        ("on", "the index is missing; expected a whole number from 0 to 255"),
+        ("on 0", "the Node ID is missing; expected six bytes in hex, as 05.01.01.01.01.01"),
+        ("on 0 05.01.01.01.01", "\"05.01.01.01.01\" is no Node ID; expected six bytes"),
+        ("on 0 5.1.1.1.1.1", "\"5.1.1.1.1.1\" is no Node ID"),
+        ("on 0 05.01.01.01.01.01 9", "\"9\" is too much; the form is: on INDEX NODE-ID"),
+        ("on x 05.01.01.01.01.01", "\"x\" is no index"),
+        (
+            "send 256",
+            "\"256\" is no index; expected a whole number from 0 to 255, the nodes being 0 to 23",
+        ),
+        ("send -1", "\"-1\" is no index"),
+        ("send +1", "\"+1\" is no index"),
+        ("send 0 1", "\"1\" is too much"),
+        ("send", "the index is missing"),
+        ("deliver al", "\"al\" is no index"),
+        ("deliver all 3", "\"3\" is too much"),
+        ("fail", "the index is missing"),
+        ("tick 0", "\"0\" is no count of ticks; expected a whole number from 1 to 65536"),
+        ("tick 65537", "\"65537\" is no count of ticks"),
+        ("tick 99999999999999999999999", "is no count of ticks"),
+        ("settle", "the count of ticks is missing"),
+        ("settle x", "\"x\" is no count of ticks"),
+        ("foreign", "the frame is missing; expected a header of 8 hex digits, or one of CID"),
+        ("foreign 1705026", "\"1705026\" is no frame"),
+        ("foreign XYZ 263", "\"XYZ\" is no frame"),
+        ("foreign AMD", "the alias is missing; expected 1 to 3 hex digits"),
+        ("foreign AMD 1263", "\"1263\" is no alias"),
+        ("foreign AMD 263 050", "\"050\" is no data; expected bytes of two hex digits"),
+        ("foreign CID 8 263", "\"8\" is no number of a CID; expected a whole number from 1 to 7"),
+        ("foreign CID 7 263 05", "\"05\" is no section; expected 3 hex digits"),
+        ("foreign error 4 263", "expected a whole number from 0 to 3"),
+        ("foreign message 8000 263", "8000 is no field of a frame; expected 0000 to 7FFF"),
+        ("foreign message 15B4", "the alias is missing"),
+        ("foreign remote", "the header is missing; expected 8 hex digits"),
+        ("foreign short 1234", "\"1234\" is no header; expected 3 or 8 hex digits"),
+        ("foreign kind 256 17050263", "\"256\" is no kind"),
+        ("foreign 17050263 010203040506070809", "9 bytes of data; expected 8 at most"),
+        ("foreign 17050263 01 length", "the length is missing"),
+        ("foreign 17050263 01 length 256", "\"256\" is no length"),
+        ("foreign 17050263 01..02", "\"01..02\" is no data"),
+        ("message 0", "the field is missing; expected 1 to 4 hex digits"),
+        ("message 0 15B45", "\"15B45\" is no field"),
+        ("message 0 15B4 0", "\"0\" is no data"),
+        ("enquiry 0 0501", "\"0501\" is no Node ID"),
+        ("release", "the index is missing"),
+        ("bytes", "the first byte is missing"),
+        ("bytes F", "\"F\" is no first byte; expected bytes of two hex digits"),
+        ("bytes FF é", "\"é\" is no byte"),
+    ];
+    for (line, why) in wrong {
+        let text = format!("# a script\non 0 05.01.01.01.01.01\n{line}\nsend 0\n");
+        let faults = script::parse(&text).expect_err(line);
+        assert_eq!(faults.len(), 1, "{line}: {faults:?}");
+        assert_eq!(faults[0].line, 3, "{line}");
+        assert!(faults[0].why.contains(why), "{line}: {}", faults[0].why);
+    }
+}
+
+#[test]
+fn every_wrong_line_is_named() {
+    let faults =
+        script::parse("send 0\nsend\n\nsend 0\nsend x\n").expect_err("two lines are wrong");
+    assert_eq!(faults.iter().map(|fault| fault.line).collect::<Vec<_>>(), [2, 5]);
+}
+
+#[test]
+fn nothing_follows_bytes_that_end_the_run() {
+    let faults = script::parse("send 0\nbytes 05 FF\nsend 0\n").expect_err("FF is no command");
+    assert_eq!((faults[0].line, faults.len()), (3, 1));
+    assert!(
+        faults[0].why.contains("the bytes from line 2 on have the unknown command FF"),
+        "{}",
+        faults[0].why
+    );
+    let faults = script::parse("bytes 01 00\nbytes 05\nsend 0\n").expect_err("01 has eight bytes");
+    assert!(
+        faults[0].why.contains("the bytes from line 1 on end after 3 of the 8 bytes"),
+        "{}",
+        faults[0].why
+    );
+    assert_eq!(
+        bytes_of("bytes 01 00\nbytes 05 01 01 01 01 01\nsend 0"),
+        bytes_of("on 0 050101010101\nsend 0")
+    );
+}
+
+#[test]
+fn wrong_lines_in_hex() {
+    let wrong = [
+        ("0G", "\"G\" is no hex digit"),
+        ("02 0O", "\"O\" is no hex digit; expected bytes of two hex digits"),
+        ("O2 00", "\"O\" is no hex digit"),
+        ("02 0", "half a byte: 3 digits"),
+        ("send 0", "\"s\" is no hex digit"),
+        ("02, 00", "\",\" is no hex digit"),
+    ];
+    for (line, why) in wrong {
+        let text = format!("# a script\n01 00 05 01 01 01 01 01\n{line}  # here\n05\n");
+        let faults = script::parse(&text).expect_err(line);
+        assert_eq!((faults[0].line, faults.len()), (3, 1), "{line}");
+        assert!(faults[0].why.contains(why), "{line}: {}", faults[0].why);
+    }
+}
+
+/// The form is told by the first words of the lines, whatever is wrong in them.
+#[test]
+fn forms_are_told_apart() {
+    use lcc::script::Form::{Hex, Names};
+    let forms = [
+        ("", Names),
+        ("# nothing", Names),
+        ("05", Hex),
+        ("0501\nFA", Hex),
+        ("0G 00", Hex),
+        ("fail 0", Names),
+        ("Deliver all\n", Names),
+        ("sned 0", Names),
+        ("on 0 05.01.01.01.01.01\n05", Names),
+        ("05\n05\nsend 0", Hex),
+        ("\u{FEFF}05\r\n", Hex),
+        ("send 0 # 05 05", Names),
+    ];
+    for (text, form) in forms {
+        assert_eq!(script::form_of(&script::sources(text)), form, "{text:?}");
+    }
+}

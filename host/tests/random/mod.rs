@@ -1,0 +1,140 @@
+//! Random scripts by name, drawn from a seed.
+
+/// A generator of random numbers; the same seed gives the same ones.
+pub struct Random(u64);
+
+impl Random {
+    pub fn new(seed: u64) -> Random {
+        Random(seed.wrapping_mul(0x9E37_79B9_7F4A_7C15) | 1)
+    }
+
+    pub fn below(&mut self, bound: u64) -> u64 {
+        self.0 ^= self.0 << 13;
+        self.0 ^= self.0 >> 7;
+        self.0 ^= self.0 << 17;
+        (self.0 >> 16) % bound
+    }
+
+    fn pick<'a>(&mut self, from: &[&'a str]) -> &'a str {
+        from[self.below(from.len() as u64) as usize]
+    }
+
+    fn one_in(&mut self, many: u64) -> bool {
+        self.below(many) == 0
+    }
+}
+
+/// A script by name of up to 40 lines. Few nodes, Node IDs and aliases, so that much collides.
+pub fn script(random: &mut Random) -> String {
+    let lines = random.below(40);
+    let mut text = String::new();
+    for _ in 0..lines {
+        text += &line(random);
+        text += random.pick(&["\n", "\n", "\r\n", "   # a comment\n", "\n\n"]);
+    }
+    if random.one_in(8) {
+        text += random.pick(&[
+            "bytes FF 01 02\n",
+            "bytes 01 00\nbytes 05.01\n",
+            "bytes 0A",
+            "bytes 06\n",
+        ]);
+    }
+    text
+}
+
+fn line(random: &mut Random) -> String {
+    let index = index(random);
+    match random.below(12) {
+        0 | 1 => format!("on {index} {}", id(random)),
+        2 | 3 => format!("send {}", random.pick(&["0", "1", "2", "all", "ALL", "23", "24"])),
+        4 | 5 => format!("deliver {}", random.pick(&["0", "1", "2", "all", "3", "255"])),
+        6 => random.pick(&["tick", "tick 1", "Tick 3", "tick 60", "tick 201"]).into(),
+        7 => format!("settle {}", 1 + random.below(30)),
+        8 | 9 => format!("foreign {}", frame(random)),
+        10 => match random.below(3) {
+            0 => format!("fail {index}"),
+            1 => format!("release {index}"),
+            _ => format!(
+                "bytes {}",
+                random.pick(&["05", "02 00", "05.05", "0400 09 01", "010005010101010105"])
+            ),
+        },
+        _ if random.one_in(2) => format!("message {index} {}{}", field(random), data(random)),
+        _ => format!("enquiry {index}{}{}", asked(random), length(random)),
+    }
+}
+
+fn index(random: &mut Random) -> String {
+    random.pick(&["0", "1", "2", "3", "0", "1", "23", "24", "255", "007"]).into()
+}
+
+fn id(random: &mut Random) -> String {
+    let ids = [
+        "05.01.01.01.01.00",
+        "0501.0101.10FF",
+        "050101010101",
+        "05.01.01.01.01.01",
+        "00.00.00.00.00.00",
+    ];
+    random.pick(&ids).into()
+}
+
+fn alias(random: &mut Random) -> String {
+    random.pick(&["262", "263", "4F8", "efb", "0", "FFF", "1"]).into()
+}
+
+fn field(random: &mut Random) -> String {
+    random.pick(&["15B4", "5B4", "0", "7FFF", "05b4"]).into()
+}
+
+fn asked(random: &mut Random) -> String {
+    if random.one_in(2) {
+        String::new()
+    } else {
+        format!(" {}", id(random))
+    }
+}
+
+fn data(random: &mut Random) -> String {
+    let data = [
+        "",
+        "",
+        " 01",
+        " 0102",
+        " 01.02.03",
+        " 01 02",
+        " 0000",
+        " 01010000000201",
+        " 0102030405060708",
+    ];
+    let data = random.pick(&data).to_string();
+    data + &length(random)
+}
+
+fn length(random: &mut Random) -> String {
+    if random.one_in(6) {
+        format!(" length {}", random.pick(&["0", "1", "5", "6", "8", "9", "255"]))
+    } else {
+        String::new()
+    }
+}
+
+fn frame(random: &mut Random) -> String {
+    let alias = alias(random);
+    let data = data(random);
+    let header =
+        random.pick(&["17050263", "00700263", "195B4262", "FFFFFFFF", "10704263", "00000000"]);
+    match random.below(10) {
+        0 => format!("CID {} {alias}", 1 + random.below(7)),
+        1 => format!("CID {} {alias} 0f{}{data}", 1 + random.below(7), random.below(10)),
+        2 => format!("{} {alias}{data}", random.pick(&["RID", "amd", "AME", "AMR"])),
+        3 => format!("{} {alias} {}", random.pick(&["AMD", "AME", "AMR"]), id(random)),
+        4 => format!("error {} {alias}{data}", random.below(4)),
+        5 => format!("message {} {alias}{data}", field(random)),
+        6 => format!("remote {header}{data}"),
+        7 => format!("short {}{data}", random.pick(&["123", "7FF", "FFF", "00000123", "00001000"])),
+        8 => format!("kind {} {header}{data}", random.below(256)),
+        _ => format!("{header}{data}"),
+    }
+}

@@ -1,0 +1,299 @@
+//! The tool itself: its words, its exit status, what it explains and sums up.
+
+use std::fs;
+use std::io::Write;
+use std::path::PathBuf;
+use std::process::{Command, Output, Stdio};
+
+/// Runs the tool on a script at standard input.
+fn lcc(words: &[&str], script: &str) -> Output {
+    let mut child = Command::new(env!("CARGO_BIN_EXE_lcc"))
+        .args(words)
+        .stdin(Stdio::piped())
+        .stdout(Stdio::piped())
+        .stderr(Stdio::piped())
+        .spawn()
+        .expect("the tool starts");
+    let mut stdin = child.stdin.take().expect("it is piped");
+    // A tool that refuses its words reads no script.
+    let _ = stdin.write_all(script.as_bytes());
+    drop(stdin);
+    child.wait_with_output().expect("it ends")
+}
+
+fn out(output: &Output) -> String {
+    String::from_utf8(output.stdout.clone()).expect("it prints text")
+}
+
+fn err(output: &Output) -> String {
+    String::from_utf8(output.stderr.clone()).expect("it prints text")
+}
+
+fn explained(script: &str) -> String {
+    let output = lcc(&["run", "-", "--explain"], script);
+    assert_eq!(output.status.code(), Some(0), "{}", err(&output));
+    out(&output)
+}
+
+fn summed_up(script: &str) -> String {
+    let output = lcc(&["run", "--summary", "-"], script);
+    assert_eq!(output.status.code(), Some(0), "{}", err(&output));
+    out(&output)
+}
+
+/// A file of this name for one test alone.
+fn file(name: &str, text: &str) -> PathBuf {
+    let folder = PathBuf::from(env!("CARGO_TARGET_TMPDIR"));
+    let path = folder.join(name);
+    fs::write(&path, text).expect("the folder can be written");
+    path
+}
+
+const PERMITTED: &str = "on 0 05.01.01.01.01.01\nsettle 204\nsend 0\nsend 0\n";
+
+#[test]
+fn bad_words_are_refused() {
+    let wrong: [(&[&str], &str); 11] = [
+        (&[], "a word is missing"),
+        (&["walk", "a.lcc"], "\"walk\" is nothing that lcc does"),
+        (&["run"], "the file is missing"),
+        (&["run", "a.lcc", "b.lcc"], "more than one file: a.lcc and b.lcc"),
+        (&["run", "--", "a.lcc", "--explain"], "more than one file: a.lcc and --explain"),
+        (&["run", "a.lcc", "--sumary"], "there is no option --sumary"),
+        (&["run", "a.lcc", "-e"], "there is no option -e"),
+        (&["run", "a.lcc", "--picture"], "--picture is followed by nothing"),
+        (&["run", "--picture", "a.lcc"], "expected the picture's name, which ends in .svg"),
+        (&["run", "-", "--picture", "a.svg", "--picture", "b.svg"], "--picture is there twice"),
+        (&["hex", "-", "--explain"], "--explain is for run alone"),
+    ];
+    for (words, why) in wrong {
+        let output = lcc(words, "tick");
+        assert_eq!((output.status.code(), out(&output).as_str()), (Some(2), ""), "{words:?}");
+        assert!(err(&output).contains(why), "{words:?}: {}", err(&output));
+    }
+}
+
+#[test]
+fn a_file_that_is_not_there_is_named() {
+    let output = lcc(&["run", "no-such.lcc"], "");
+    assert_eq!((output.status.code(), out(&output).as_str()), (Some(2), ""));
+    assert!(err(&output).starts_with("lcc: cannot read no-such.lcc: "), "{}", err(&output));
+}
+
+#[test]
+fn a_name_with_an_equals_sign_is_a_file() {
+    let path = file("x=1.hex", "05 05");
+    let output = lcc(&["run", path.to_str().expect("a plain path")], "");
+    assert_eq!(
+        (output.status.code(), out(&output).as_str()),
+        (Some(0), "1 05 ok\n2 05 ok\nkept\n")
+    );
+}
+
+#[test]
+fn help_is_a_screenful() {
+    let output = lcc(&["--help"], "");
+    let help = out(&output);
+    assert_eq!(output.status.code(), Some(0));
+    assert!(help.lines().count() <= 40, "{} lines", help.lines().count());
+    for (name, _) in lcc::names::FORMS {
+        assert!(
+            help.contains(&format!("\n  {name} ")) || help.contains(&format!("    {name} ")),
+            "{name}"
+        );
+    }
+    assert_eq!(out(&lcc(&["run", "-", "-h"], "")), help);
+}
+
+/// Nothing is run, and no picture is made.
+#[test]
+fn a_bad_script_is_not_run() {
+    let picture = file("never.svg", "as it was");
+    let name = picture.to_str().expect("a plain path");
+    let output = lcc(&["run", "-", "--summary", "--picture", name], "send 0\ntick x\n");
+    assert_eq!((output.status.code(), out(&output).as_str()), (Some(2), ""));
+    assert!(
+        err(&output).starts_with("lcc: -: line 2: \"x\" is no count of ticks"),
+        "{}",
+        err(&output)
+    );
+    assert_eq!(fs::read_to_string(&picture).expect("it is there"), "as it was");
+}
+
+#[test]
+fn a_picture_that_cannot_be_written_is_named() {
+    let output = lcc(&["run", "-", "--picture", "no-such-folder/a.svg"], "tick");
+    assert_eq!((output.status.code(), out(&output).as_str()), (Some(1), ""));
+    assert!(
+        err(&output).starts_with("lcc: cannot write no-such-folder/a.svg: "),
+        "{}",
+        err(&output)
+    );
+}
+
+#[test]
+fn refusals_leave_the_exit_status_0() {
+    let output = lcc(&["run", "-"], "send 24\nbytes FF\n");
+    let lines = "1 02 refused 1\n2 FF refused 10\nkept\n";
+    assert_eq!((output.status.code(), out(&output).as_str()), (Some(0), lines));
+}
+
+#[test]
+fn no_colours_but_on_a_terminal() {
+    let script = format!("{PERMITTED}send 24\n");
+    assert!(!explained(&script).contains('\x1b') && !summed_up(&script).contains('\x1b'));
+}
+
+/// The whole script is explained, however long it is; past the limit the program uses nothing.
+#[test]
+fn long_scripts_are_explained() {
+    let script = "send 0\n".repeat(32_767);
+    assert_eq!(explained(&script).lines().count(), 32_768);
+    let output = lcc(&["run", "-", "--explain"], &"send 0\n".repeat(40_000));
+    assert_eq!(out(&output).lines().count(), 32_769);
+    let note = "lcc: the script has 80000 bytes, and the program uses the first 65536: in line 32769 the run ends\n";
+    assert_eq!(err(&output), note);
+    let cut = lcc(&["run", "-", "--explain"], &format!("tick\n{}", "send 0\n".repeat(40_000)));
+    let text = out(&cut);
+    let last: Vec<&str> = text.lines().rev().take(2).collect();
+    assert!(last[1].starts_with("32769 02 refused 11"), "{}", last[1]);
+    let many = explained(&"tick 65536\n".repeat(3));
+    assert!(
+        many.starts_with("1-65536 05 ok ") && many.contains("65536 ticks, up to tick 65536"),
+        "{many}"
+    );
+}
+
+/// A message of field 15B4 is a report by its data alone, and six bytes are a Node ID only in AMD, AME and AMR.
+#[test]
+fn frames_are_told_by_what_they_carry() {
+    let frames = [
+        ("foreign message 15B4 263 01010000000201", "the report of a duplicate Node ID"),
+        (
+            "foreign message 15B4 263 01010000000202",
+            "message 15B4, alias 263, data 01.01.00.00.00.02.02:",
+        ),
+        ("foreign message 15B4 263", "message 15B4, alias 263: it joins"),
+        (
+            "foreign message 05B4 263 01010000000201",
+            "message 05B4, alias 263, data 01.01.00.00.00.02.01:",
+        ),
+        (
+            "foreign message 15B4 263 010203040506",
+            "message 15B4, alias 263, data 01.02.03.04.05.06:",
+        ),
+        ("foreign AMD 263 010203040506", "AMD, alias 263, Node ID 01.02.03.04.05.06:"),
+        ("foreign AMD 263 0102030405", "AMD, alias 263, data 01.02.03.04.05:"),
+        ("foreign AME 263 01020304050607", "AME, alias 263, data 01.02.03.04.05.06.07:"),
+        ("foreign RID 263 010203040506", "RID, alias 263, data 01.02.03.04.05.06:"),
+        ("foreign CID 7 263 050", "CID 7, alias 263, section 050:"),
+        ("foreign remote 10701263", "remote frame 10701263:"),
+        ("foreign short 123", "eleven-bit frame 123:"),
+        ("foreign 10704263", "reserved frame 0704, alias 263:"),
+        ("foreign error 2 263", "error report 2, alias 263:"),
+        ("foreign 00700263", "RID, alias 263:"),
+        ("foreign FFFFFFFF", "frame FFFFFFFF, above 29 bits: refused, an operand is out of range"),
+        (
+            "foreign 10701263 01 length 9",
+            "AMD, alias 263, length 9: refused, an operand is out of range",
+        ),
+    ];
+    for (frame, words) in frames {
+        let text = explained(&format!("on 0 05.01.01.01.01.01\n{frame}\n"));
+        let line = text.lines().nth(1).expect("two commands").to_string();
+        assert!(line.contains(words), "{frame}: {line}");
+        let reports = line.contains("report of a duplicate");
+        assert_eq!(reports, frame.ends_with("15B4 263 01010000000201"), "{frame}: {line}");
+    }
+}
+
+#[test]
+fn a_command_cut_short_is_not_explained_as_whole() {
+    let text = explained("05 01 00 05 01");
+    let words =
+        "2 01 refused 11                       command 01 has 8 bytes, and not all are there: \
+                 the script ends within the command, and the run ends";
+    assert_eq!(text.lines().nth(1), Some(words));
+    assert!(!text.contains("Node ID"), "{text}");
+}
+
+/// What happens to a frame that is delivered, by what the node shows before and after.
+#[test]
+fn deliveries_have_their_effects() {
+    let effects = [
+        ("foreign CID 7 263 000", "an answer to it is due, RID"),
+        ("foreign RID 263", "collision, it is Leaving with alias 263; AMR is due"),
+        ("foreign AME 111", "an answer to it is due, AMD"),
+        ("foreign AME 111 05.01.01.01.01.02", "no effect"),
+        ("foreign AMD 111 05.01.01.01.01.01", "an answer to it is due, report"),
+        ("foreign message 15B4 111 01", "no effect"),
+        ("message 0 15B4 01\nforeign RID 111", "what is due stays as it was"),
+    ];
+    for (frame, effect) in effects {
+        let text = explained(&format!("{PERMITTED}{frame}\ndeliver 0\n"));
+        let line = text.lines().rev().nth(1).expect("a delivery").to_string();
+        assert!(line.ends_with(effect), "{frame}: {line}");
+    }
+    let text = explained("on 0 05.01.01.01.01.01\nforeign CID 1 263\ndeliver 0\nfail 0\n");
+    assert!(
+        text.contains(": collision, it starts again, Testing alias 4F8; CID 7 is due\n"),
+        "{text}"
+    );
+    assert!(
+        text.contains(
+            "could not send CID 7, alias 4F8, section 050: it starts again, Testing alias "
+        ),
+        "{text}"
+    );
+}
+
+/// Which frame made a list late: in an inbox, a reply RID, an AMR; never the RID that reserves.
+#[test]
+fn the_frame_that_was_late_is_named() {
+    let lists = [
+        ("on 0 050101010101\ntick 2\nforeign RID 111\ntick 41\n", "late from tick 43 on (command 45): RID, alias 111, from foreign equipment, has stood in the inbox of node 0 since tick 2 (command 4)"),
+        ("on 0 050101010101\non 1 050101010102\nsend 1\ntick 90\n", "late from tick 41 on (command 44): CID 7, alias 264, section 050, from node 1, has stood in the inbox of node 0 since tick 0 (command 3)"),
+        ("on 0 050101010101\non 1 050101010102\nforeign RID 1\ntick 41\n", "in the inbox of node 0 since tick 0 (command 3); 1 other frame is as old"),
+        ("foreign CID 7 263\ndeliver 0\ntick 40\n", "kept: "),
+        ("foreign CID 7 263\ndeliver 0\ntick 20\nforeign CID 7 263\ndeliver 0\ntick 21\n", "RID, alias 263, has been due at node 0 since tick 204"),
+        ("release 0\ntick 41\n", "AMR, alias 263, Node ID 05.01.01.01.01.01, has been due at node 0 since tick 204"),
+        ("foreign CID 7 263\ndeliver 0\ntick 30\nrelease 0\ntick 40\n", "kept: "),
+        ("on 0 050101010101\nsettle 4\ntick 400\n", "kept: "),
+    ];
+    for (list, words) in lists {
+        let list =
+            if list.starts_with("on") { list.to_string() } else { format!("{PERMITTED}{list}") };
+        let text = summed_up(&list);
+        let last = text.lines().last().expect("a table").to_string();
+        assert!(last.contains(words), "{list}: {last}");
+    }
+}
+
+#[test]
+fn the_table_has_a_row_for_each_exhibit() {
+    let text = summed_up(
+        "on 1 05.01.01.01.01.01\non 3 05.01.01.01.01.02\nsettle 230\nrelease 3\nsettle 1\nfail 1\n",
+    );
+    let rows: Vec<&str> =
+        text.lines().skip_while(|line| !line.starts_with("node ")).skip(1).take(5).collect();
+    assert_eq!(
+        rows[0],
+        "0      -                  Off        -      -           -           -         -         -"
+    );
+    assert_eq!(
+        rows[1],
+        "1      05.01.01.01.01.01  Permitted  263    tick 204    tick 205    0         -         1"
+    );
+    assert_eq!(
+        rows[3],
+        "3      05.01.01.01.01.02  Resting    -      tick 204    tick 205    0         -         0"
+    );
+    assert_eq!(
+        rows[4],
+        "4-23   -                  Off        -      -           -           -         -         -"
+    );
+    assert!(
+        text.contains("\n2 nodes on: 1 Permitted, 1 Resting; one uses an alias.\nNo collisions.\n"),
+        "{text}"
+    );
+}
