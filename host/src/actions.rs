@@ -120,7 +120,7 @@ fn plain(script: &[u8]) -> String {
 fn watched(script: &[u8], mut show: impl FnMut(&Moment)) -> Card {
     let mut card = Card::new();
     let mut watch = Watch::default();
-    let mut progress = Progress::new(play::used(script).len());
+    let mut progress = Progress::new(play::used(script).len(), "bytes carried out");
     play::play(script, &mut card, |turn, card| {
         progress.at(turn.at);
         show(&watch.look(turn, card));

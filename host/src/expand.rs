@@ -2,6 +2,7 @@
 
 use crate::card::{Card, PLACES};
 use crate::command::{Command, Read};
+use crate::progress::Progress;
 use crate::script::{Item, Line};
 
 /// A script's bytes, and where each line's begin.
@@ -23,10 +24,13 @@ impl Expanded {
 pub fn expand(lines: &[Line]) -> Expanded {
     let mut expander = Expander { card: Card::new(), read: 0, ended: false, bytes: Vec::new() };
     let mut starts = Vec::new();
-    for line in lines {
+    let mut progress = Progress::new(lines.len(), "lines turned to bytes");
+    for (done, line) in lines.iter().enumerate() {
+        progress.at(done);
         starts.push((expander.bytes.len(), line.number));
         expander.item(&line.item);
     }
+    progress.end();
     Expanded { bytes: expander.bytes, starts }
 }
 

@@ -7,6 +7,7 @@ const FIRST: Duration = Duration::from_secs(1);
 const NEXT: Duration = Duration::from_millis(100);
 
 pub struct Progress {
+    what: &'static str,
     total: usize,
     next: Instant,
     shown: bool,
@@ -14,13 +15,13 @@ pub struct Progress {
 }
 
 impl Progress {
-    /// Of so many bytes.
-    pub fn new(total: usize) -> Progress {
+    /// Of so many of something, as `bytes carried out`.
+    pub fn new(total: usize, what: &'static str) -> Progress {
         let shows = io::stderr().is_terminal();
-        Progress { total, next: Instant::now() + FIRST, shown: false, shows }
+        Progress { what, total, next: Instant::now() + FIRST, shown: false, shows }
     }
 
-    /// So many bytes have been carried out.
+    /// So many of them are done.
     pub fn at(&mut self, done: usize) {
         if !self.shows || Instant::now() < self.next {
             return;
@@ -28,7 +29,7 @@ impl Progress {
         self.next = Instant::now() + NEXT;
         self.shown = true;
         let percent = 100 * done / self.total.max(1);
-        let _ = write!(io::stderr(), "\rlcc: {percent} % of {} bytes carried out", self.total);
+        let _ = write!(io::stderr(), "\rlcc: {percent} % of {} {}", self.total, self.what);
     }
 
     /// Leaves nothing on the line.

@@ -1,5 +1,7 @@
 //! Puts a drawing together: title, bus, time axis, a row for each exhibit, what collided, legend. A page is A4 across.
 
+use std::collections::HashSet;
+
 use super::axis::Axis;
 use super::lanes::Lanes;
 use super::legend;
@@ -23,6 +25,8 @@ const BAND: f64 = 15.0;
 const LABEL: f64 = 27.0;
 /// Of collisions, so many are told in words.
 const TOLD: usize = 4;
+/// With more collisions than these no ways lead to them, since they would cover everything.
+const LED_TO: usize = 40;
 
 /// The places of a drawing that go by what was recorded.
 struct Page<'a> {
@@ -97,7 +101,7 @@ impl Page<'_> {
     }
 
     /// The commands whose frames collided with a node's alias.
-    fn hits(&self) -> Vec<usize> {
+    fn hits(&self) -> HashSet<usize> {
         self.record.collisions.iter().map(|(_, collision)| collision.arrival.count).collect()
     }
 
@@ -227,8 +231,19 @@ impl Page<'_> {
         }
     }
 
-    /// From each frame that collided, by its sender's row, to the node that was delivered it.
+    /// A cross at each collision. While they are few, a way leads there from the frame, by its sender's row.
     fn collisions(&self, svg: &mut Svg) {
+        let few = self.record.collisions.len() <= LED_TO;
+        if few {
+            self.leads(svg);
+        }
+        for (step, collision) in &self.record.collisions {
+            let size = if few { 4.5 } else { 2.5 };
+            svg.cross(self.axis.at(*step), self.middle(collision.index), size);
+        }
+    }
+
+    fn leads(&self, svg: &mut Svg) {
         for (step, collision) in &self.record.collisions {
             let to = (self.axis.at(*step), self.middle(collision.index));
             let Some(on_bus) = self.record.frame_of(collision.arrival.count) else { continue };
@@ -242,9 +257,6 @@ impl Page<'_> {
             if let Sender::Node(index) = on_bus.from {
                 svg.circle(x, self.middle(index), 3.4, "ring");
             }
-        }
-        for (step, collision) in &self.record.collisions {
-            svg.cross(self.axis.at(*step), self.middle(collision.index), 4.5);
         }
     }
 

@@ -1,5 +1,7 @@
 //! The bus above the exhibits: a lane for each sort of frame that was seen.
 
+use std::collections::HashSet;
+
 use super::axis::Axis;
 use super::record::{OnBus, Record};
 use super::svg::{Anchor, Svg};
@@ -40,7 +42,7 @@ impl Lanes {
     }
 
     /// The lanes with their names and frames; `hits` are the commands whose frames met a node of the same alias.
-    pub fn draw(&self, svg: &mut Svg, record: &Record, axis: &Axis, hits: &[usize]) {
+    pub fn draw(&self, svg: &mut Svg, record: &Record, axis: &Axis, hits: &HashSet<usize>) {
         svg.text(24.0, self.top - 6.0, "strong", Anchor::Start, "frames on the bus");
         for (lane, name) in self.names.iter().enumerate() {
             let y = self.top + LANE * (lane as f64 + 0.5);
