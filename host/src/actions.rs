@@ -49,17 +49,31 @@ pub fn fulfil(wish: &Wish) -> Result<Vec<u8>, Trouble> {
 /// The bytes of a script that can be read and has no wrong line.
 fn script_of(file: &Path) -> Result<Expanded, Trouble> {
     let mut bytes = Vec::new();
-    let read = match file.to_str() {
-        Some("-") => io::stdin().read_to_end(&mut bytes).map(|_| ()),
-        _ => fs::read(file).map(|found| bytes = found),
+    let read = if is_standard_input(file) {
+        io::stdin().read_to_end(&mut bytes).map(|_| ())
+    } else {
+        fs::read(file).map(|found| bytes = found)
     };
-    read.map_err(|why| Trouble::Script(format!("cannot read {}: {why}", file.display())))?;
+    read.map_err(|why| Trouble::Script(format!("cannot read {}: {why}", name_of(file))))?;
     let lines = script::parse(&String::from_utf8_lossy(&bytes));
     lines.map(|lines| expand(&lines)).map_err(|faults| Trouble::Script(faults_text(file, &faults)))
 }
 
+fn is_standard_input(file: &Path) -> bool {
+    file == Path::new("-")
+}
+
+/// How a script is called in what is said of it.
+fn name_of(file: &Path) -> String {
+    if is_standard_input(file) {
+        "standard input".into()
+    } else {
+        file.display().to_string()
+    }
+}
+
 fn faults_text(file: &Path, faults: &[Fault]) -> String {
-    let name = file.display();
+    let name = name_of(file);
     let named = faults
         .iter()
         .take(NAMED)
@@ -73,8 +87,8 @@ fn faults_text(file: &Path, faults: &[Fault]) -> String {
 
 fn note_the_limit(script: &Expanded) {
     if script.bytes.len() > LIMIT {
-        let (bytes, line) = (script.bytes.len(), script.line_of(LIMIT));
-        eprintln!("lcc: the script has {bytes} bytes, and the program uses the first {LIMIT}: in line {line} the run ends");
+        let (bytes, line) = (script.bytes.len(), script.line_of(LIMIT - 1));
+        eprintln!("lcc: the script has {bytes} bytes, and the program uses the first {LIMIT}, which end in line {line}");
     }
 }
 
@@ -101,7 +115,7 @@ fn run(script: &Expanded, file: &Path, options: &Options) -> Result<String, Trou
         text += &summary.text(&card, paint);
     }
     if let Some(picture) = &options.picture {
-        let name = file.file_name().map_or("script".into(), |name| name.to_string_lossy());
+        let name = name_of(Path::new(file.file_name().unwrap_or_default()));
         fs::write(picture, picture::draw(&record, &name, last))
             .map_err(|why| Trouble::Output(format!("cannot write {}: {why}", picture.display())))?;
     }

@@ -1,5 +1,6 @@
 //! The tool for the bench. `lcc --help` tells what it does.
 
+use std::ffi::OsString;
 use std::io::{self, ErrorKind, Write};
 use std::process::ExitCode;
 
@@ -7,8 +8,7 @@ use lcc::actions::{fulfil, Trouble};
 use lcc::usage;
 
 fn main() -> ExitCode {
-    let words: Vec<String> =
-        std::env::args_os().skip(1).map(|word| word.to_string_lossy().into_owned()).collect();
+    let words: Vec<OsString> = std::env::args_os().skip(1).collect();
     let wish = match usage::parse(&words) {
         Ok(wish) => wish,
         Err(why) => return end(2, &format!("{why}\nlcc --help tells what it takes")),

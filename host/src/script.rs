@@ -59,14 +59,13 @@ pub fn parse(text: &str) -> Result<Vec<Line>, Vec<Fault>> {
 /// The lines that say something. A byte order mark at the start is left out.
 pub fn sources(text: &str) -> Vec<Source<'_>> {
     let text = text.strip_prefix('\u{FEFF}').unwrap_or(text);
-    let bare = |line: &'_ str| line.split('#').next().unwrap_or("").trim().len();
-    text.lines()
-        .enumerate()
-        .filter(|(_, line)| bare(line) > 0)
+    let numbered = text.lines().enumerate();
+    numbered
         .map(|(at, line)| Source {
             number: at + 1,
             text: line.split('#').next().unwrap_or("").trim(),
         })
+        .filter(|source| !source.text.is_empty())
         .collect()
 }
 

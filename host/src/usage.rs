@@ -1,6 +1,7 @@
 //! The words of the command line: what is wished for, or what is wrong with them.
 
-use std::path::PathBuf;
+use std::ffi::OsString;
+use std::path::{Path, PathBuf};
 
 pub const HELP: &str = include_str!("../help.txt");
 
@@ -21,72 +22,72 @@ pub struct Options {
     pub picture: Option<PathBuf>,
 }
 
-/// The words after a subcommand.
+/// What the first word can be.
+const FIRST: &str = "run, hex, names or bytes";
+
+/// The words after the first.
 #[derive(Default)]
 struct Rest {
-    files: Vec<String>,
+    files: Vec<PathBuf>,
     options: Options,
-    asked: Vec<String>,
 }
 
 /// What the words after the program's name wish for.
-pub fn parse(words: &[String]) -> Result<Wish, String> {
-    if words.iter().take_while(|word| *word != "--").any(|word| word == "--help" || word == "-h") {
+pub fn parse(words: &[OsString]) -> Result<Wish, String> {
+    let mut before_files = words.iter().take_while(|word| *word != "--");
+    if before_files.any(|word| word == "--help" || word == "-h") {
         return Ok(Wish::Help);
     }
     let Some((first, words)) = words.split_first() else {
-        return Err("a word is missing; expected run, hex, names or bytes, and a file".into());
+        return Err(format!("a word is missing; expected {FIRST}, and a file"));
     };
-    let rest = rest(words)?;
-    let file = one_file(first, &rest)?;
-    match first.as_str() {
-        "run" => return Ok(Wish::Run(file, rest.options)),
-        "hex" | "names" | "bytes" => {}
-        _ => {
-            return Err(format!(
-                "\"{first}\" is nothing that lcc does; expected run, hex, names or bytes"
-            ))
-        }
+    let first = first.to_string_lossy();
+    if !["run", "hex", "names", "bytes"].contains(&first.as_ref()) {
+        return Err(format!("\"{first}\" is nothing that lcc does; expected {FIRST}"));
     }
-    if let Some(option) = rest.asked.first() {
-        return Err(format!("{option} is for run alone"));
+    let Rest { files, options } = rest(words)?;
+    let file = one_file(&files)?;
+    if first != "run" && options != Options::default() {
+        return Err(format!(
+            "{first} takes no option; --explain, --summary and --picture are for run"
+        ));
     }
-    Ok(match first.as_str() {
+    Ok(match first.as_ref() {
+        "run" => Wish::Run(file, options),
         "hex" => Wish::Hex(file),
         "names" => Wish::Names(file),
         _ => Wish::Bytes(file),
     })
 }
 
-fn rest(words: &[String]) -> Result<Rest, String> {
+fn rest(words: &[OsString]) -> Result<Rest, String> {
     let mut rest = Rest::default();
     let mut words = words.iter();
     while let Some(word) = words.next() {
-        if word.starts_with("--") && word != "--" {
-            rest.asked.push(word.clone());
-        }
-        match word.as_str() {
-            "--" => rest.files.extend(words.by_ref().cloned()),
-            "--explain" => rest.options.explain = true,
-            "--summary" => rest.options.summary = true,
-            "--picture" => picture(&mut rest.options, words.next())?,
-            "-" => rest.files.push(word.clone()),
-            _ if word.starts_with('-') => {
-                return Err(format!("there is no option {word}; expected --explain, --summary, --picture OUT.svg or --help"));
+        match word.to_str() {
+            Some("--") => rest.files.extend(words.by_ref().map(PathBuf::from)),
+            Some("--explain") => rest.options.explain = true,
+            Some("--summary") => rest.options.summary = true,
+            Some("--picture") => picture(&mut rest.options, words.next())?,
+            Some(option) if option.starts_with('-') && option != "-" => {
+                let known = "--explain, --summary, --picture OUT.svg or --help";
+                return Err(format!("there is no option {option}; expected {known}"));
             }
-            _ => rest.files.push(word.clone()),
+            _ => rest.files.push(word.into()),
         }
     }
     Ok(rest)
 }
 
 /// A picture's name ends in .svg, so that no script is written over by mistake.
-fn picture(options: &mut Options, word: Option<&String>) -> Result<(), String> {
-    let Some(name) = word.filter(|name| name.to_ascii_lowercase().ends_with(".svg")) else {
-        let found = word.map_or("nothing".into(), |name| format!("\"{name}\""));
-        return Err(format!(
-            "--picture is followed by {found}; expected the picture's name, which ends in .svg"
-        ));
+fn picture(options: &mut Options, word: Option<&OsString>) -> Result<(), String> {
+    let is_svg = |name: &&OsString| {
+        Path::new(name).extension().is_some_and(|end| end.eq_ignore_ascii_case("svg"))
+    };
+    let Some(name) = word.filter(is_svg) else {
+        let found = word.map_or("nothing".into(), |name| format!("\"{}\"", name.display()));
+        let expected = "the picture's name, which ends in .svg";
+        return Err(format!("--picture is followed by {found}; expected {expected}"));
     };
     if options.picture.replace(name.into()).is_some() {
         return Err("--picture is there twice; expected one picture".into());
@@ -94,15 +95,13 @@ fn picture(options: &mut Options, word: Option<&String>) -> Result<(), String> {
     Ok(())
 }
 
-fn one_file(first: &str, rest: &Rest) -> Result<PathBuf, String> {
-    match rest.files.as_slice() {
-        [file] => Ok(file.into()),
-        [] if ["run", "hex", "names", "bytes"].contains(&first) => {
-            Err(format!("{first}: the file is missing; expected one script"))
+fn one_file(files: &[PathBuf]) -> Result<PathBuf, String> {
+    match files {
+        [file] => Ok(file.clone()),
+        [] => Err("the file is missing; expected one script".into()),
+        [one, two, ..] => {
+            let (one, two) = (one.display(), two.display());
+            Err(format!("more than one file: {one} and {two}; expected one script"))
         }
-        [] => Err(format!(
-            "\"{first}\" is nothing that lcc does; expected run, hex, names or bytes, and a file"
-        )),
-        [one, two, ..] => Err(format!("more than one file: {one} and {two}; expected one script")),
     }
 }

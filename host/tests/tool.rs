@@ -64,7 +64,7 @@ fn bad_words_are_refused() {
         (&["run", "a.lcc", "--picture"], "--picture is followed by nothing"),
         (&["run", "--picture", "a.lcc"], "expected the picture's name, which ends in .svg"),
         (&["run", "-", "--picture", "a.svg", "--picture", "b.svg"], "--picture is there twice"),
-        (&["hex", "-", "--explain"], "--explain is for run alone"),
+        (&["hex", "-", "--explain"], "hex takes no option; --explain"),
     ];
     for (words, why) in wrong {
         let output = lcc(words, "tick");
@@ -113,7 +113,7 @@ fn a_bad_script_is_not_run() {
     let output = lcc(&["run", "-", "--summary", "--picture", name], "send 0\ntick x\n");
     assert_eq!((output.status.code(), out(&output).as_str()), (Some(2), ""));
     assert!(
-        err(&output).starts_with("lcc: -: line 2: \"x\" is no count of ticks"),
+        err(&output).starts_with("lcc: standard input: line 2: \"x\" is no count of ticks"),
         "{}",
         err(&output)
     );
@@ -151,7 +151,7 @@ fn long_scripts_are_explained() {
     assert_eq!(explained(&script).lines().count(), 32_768);
     let output = lcc(&["run", "-", "--explain"], &"send 0\n".repeat(40_000));
     assert_eq!(out(&output).lines().count(), 32_769);
-    let note = "lcc: the script has 80000 bytes, and the program uses the first 65536: in line 32769 the run ends\n";
+    let note = "lcc: the script has 80000 bytes, and the program uses the first 65536, which end in line 32768\n";
     assert_eq!(err(&output), note);
     let cut = lcc(&["run", "-", "--explain"], &format!("tick\n{}", "send 0\n".repeat(40_000)));
     let text = out(&cut);
@@ -247,24 +247,42 @@ fn deliveries_have_their_effects() {
     );
 }
 
+/// Lists, and what the last line says of each. Those that power no node on follow one that is Permitted at tick 204.
+const LISTS: [(&str, &str); 8] = [
+    (
+        "on 0 050101010101\ntick 2\nforeign RID 111\ntick 41\n",
+        "late from tick 43 on (command 45): RID, alias 111, from foreign equipment, \
+         has stood in the inbox of node 0 since tick 2 (command 4)",
+    ),
+    (
+        "on 0 050101010101\non 1 050101010102\nsend 1\ntick 90\n",
+        "late from tick 41 on (command 44): CID 7, alias 264, section 050, from node 1, \
+         has stood in the inbox of node 0 since tick 0 (command 3)",
+    ),
+    (
+        "on 0 050101010101\non 1 050101010102\nforeign RID 1\ntick 41\n",
+        "in the inbox of node 0 since tick 0 (command 3); 1 other frame is as old",
+    ),
+    ("foreign CID 7 263\ndeliver 0\ntick 40\n", "kept: "),
+    (
+        "foreign CID 7 263\ndeliver 0\ntick 20\nforeign CID 7 263\ndeliver 0\ntick 21\n",
+        "RID, alias 263, has been due at node 0 since tick 204",
+    ),
+    (
+        "release 0\ntick 41\n",
+        "AMR, alias 263, Node ID 05.01.01.01.01.01, has been due at node 0 since tick 204",
+    ),
+    ("foreign CID 7 263\ndeliver 0\ntick 30\nrelease 0\ntick 40\n", "kept: "),
+    ("on 0 050101010101\nsettle 4\ntick 400\n", "kept: "),
+];
+
 /// Which frame made a list late: in an inbox, a reply RID, an AMR; never the RID that reserves.
 #[test]
 fn the_frame_that_was_late_is_named() {
-    let lists = [
-        ("on 0 050101010101\ntick 2\nforeign RID 111\ntick 41\n", "late from tick 43 on (command 45): RID, alias 111, from foreign equipment, has stood in the inbox of node 0 since tick 2 (command 4)"),
-        ("on 0 050101010101\non 1 050101010102\nsend 1\ntick 90\n", "late from tick 41 on (command 44): CID 7, alias 264, section 050, from node 1, has stood in the inbox of node 0 since tick 0 (command 3)"),
-        ("on 0 050101010101\non 1 050101010102\nforeign RID 1\ntick 41\n", "in the inbox of node 0 since tick 0 (command 3); 1 other frame is as old"),
-        ("foreign CID 7 263\ndeliver 0\ntick 40\n", "kept: "),
-        ("foreign CID 7 263\ndeliver 0\ntick 20\nforeign CID 7 263\ndeliver 0\ntick 21\n", "RID, alias 263, has been due at node 0 since tick 204"),
-        ("release 0\ntick 41\n", "AMR, alias 263, Node ID 05.01.01.01.01.01, has been due at node 0 since tick 204"),
-        ("foreign CID 7 263\ndeliver 0\ntick 30\nrelease 0\ntick 40\n", "kept: "),
-        ("on 0 050101010101\nsettle 4\ntick 400\n", "kept: "),
-    ];
-    for (list, words) in lists {
-        let list =
-            if list.starts_with("on") { list.to_string() } else { format!("{PERMITTED}{list}") };
-        let text = summed_up(&list);
-        let last = text.lines().last().expect("a table").to_string();
+    for (list, words) in LISTS {
+        let before = if list.starts_with("on") { "" } else { PERMITTED };
+        let text = summed_up(&format!("{before}{list}"));
+        let last = text.lines().last().expect("a table");
         assert!(last.contains(words), "{list}: {last}");
     }
 }
