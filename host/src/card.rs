@@ -5,7 +5,7 @@ use crate::frame::Frame;
 
 /// The nodes of a card, and the words of its table, as c/card.h has them.
 pub const PLACES: usize = 24;
-const WORDS: usize = 1928;
+pub const WORDS: usize = 1928;
 
 /// The words that `card_send`, `card_look` and `card_inbox` write.
 type Sent = [u64; 3];

@@ -224,3 +224,31 @@ fn forms_are_told_apart() {
         assert_eq!(script::form_of(&script::sources(text)), form, "{text:?}");
     }
 }
+
+/// Whatever stands in a text, it is read or refused, and always by a line that is there.
+#[test]
+fn any_text_is_read_or_refused() {
+    let words = [
+        "on", "send", "foreign", "AMD", "CID", "all", "length", "0", "7", "263", "05.01", "FF",
+        "é", "#", "\n", "bytes", "-1", ".",
+    ];
+    let mut random = Random::new(7);
+    let (mut read, mut refused) = (0, 0);
+    for _ in 0..20_000 {
+        let count = random.below(12);
+        let text: Vec<&str> =
+            (0..count).map(|_| words[random.below(words.len() as u64) as usize]).collect();
+        let text = text.join(" ");
+        match script::parse(&text) {
+            Ok(lines) => read += usize::from(!expand(&lines).bytes.is_empty()),
+            Err(faults) => {
+                refused += 1;
+                assert!(
+                    faults.iter().all(|fault| (1..=text.lines().count()).contains(&fault.line)),
+                    "{text}"
+                );
+            }
+        }
+    }
+    assert!(read > 100 && refused > 10_000, "{read} read, {refused} refused");
+}

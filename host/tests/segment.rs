@@ -33,20 +33,39 @@ fn segment(bytes: &[u8]) -> String {
     String::from_utf8(output.stdout).expect("it prints text")
 }
 
-/// The tool's lines for a file, without options and with one; the program's for the file's bytes.
+fn text(file: &Path, options: Options) -> String {
+    let printed = fulfil(&Wish::Run(file.into(), options)).expect("it runs");
+    String::from_utf8(printed).expect("it prints text")
+}
+
+/// The tool's lines for a file, with each option and without; the program's for the file's bytes.
 fn same(file: &Path) {
-    let run = |options: Options| fulfil(&Wish::Run(file.into(), options)).expect("it runs");
-    let bytes = fulfil(&Wish::Bytes(file.into())).expect("it has bytes");
-    let expected = segment(&bytes);
-    let plain = String::from_utf8(run(Options::default())).expect("it prints text");
-    assert!(plain == expected, "lcc run {} prints other lines than segment", file.display());
-    let watched = String::from_utf8(run(Options { summary: true, ..Options::default() }))
-        .expect("it prints text");
-    assert!(
-        watched.starts_with(&expected),
-        "lcc run --summary {} prints other lines",
-        file.display()
-    );
+    let name = file.display();
+    let expected = segment(&fulfil(&Wish::Bytes(file.into())).expect("it has bytes"));
+    let plain = text(file, Options::default());
+    assert!(plain == expected, "lcc run {name} prints other lines than segment");
+    let picture = Some(file.with_extension("svg").file_name().expect("it has a name").into());
+    let picture = picture.map(|name: PathBuf| Path::new(env!("CARGO_TARGET_TMPDIR")).join(name));
+    let drawn = text(file, Options { summary: true, picture, ..Options::default() });
+    assert!(drawn.starts_with(&expected), "lcc run {name} --summary --picture prints other lines");
+    let explained = unfolded(&text(file, Options { explain: true, ..Options::default() }));
+    assert!(explained == expected, "lcc run {name} --explain explains other lines");
+}
+
+/// The lines of an explanation without their words, and ticks in a row each on its own line.
+fn unfolded(explained: &str) -> String {
+    let mut lines = String::new();
+    for line in explained.lines() {
+        let line = line.split("  ").next().expect("a line begins with the program's");
+        match line.strip_suffix(" 05 ok").and_then(|counts| counts.split_once('-')) {
+            Some((first, last)) => {
+                let count = |text: &str| text.parse::<usize>().expect("a count");
+                (count(first)..=count(last)).for_each(|n| lines += &format!("{n} 05 ok\n"));
+            }
+            None => lines += &format!("{line}\n"),
+        }
+    }
+    lines
 }
 
 #[test]

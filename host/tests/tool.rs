@@ -315,3 +315,12 @@ fn the_table_has_a_row_for_each_exhibit() {
         "{text}"
     );
 }
+
+/// The table that is lent to the library has the words that its header asks for.
+#[test]
+fn the_words_are_those_of_the_header() {
+    let header = fs::read_to_string(concat!(env!("CARGO_MANIFEST_DIR"), "/../c/card.h"))
+        .expect("it is there");
+    let line = format!("#define CARD_WORDS {}", lcc::card::WORDS);
+    assert!(header.lines().any(|found| found == line), "c/card.h has no line {line}");
+}
