@@ -50,6 +50,7 @@ fn line(random: &mut Random) -> String {
         2 | 3 => format!("send {}", random.pick(&["0", "1", "2", "all", "ALL", "23", "24"])),
         4 | 5 => format!("deliver {}", random.pick(&["0", "1", "2", "all", "3", "255"])),
         6 => random.pick(&["tick", "tick 1", "Tick 3", "tick 60", "tick 201"]).into(),
+        7 if random.one_in(9) => "settle 206".into(),
         7 => format!("settle {}", 1 + random.below(30)),
         8 | 9 => format!("foreign {}", frame(random)),
         10 => match random.below(3) {
