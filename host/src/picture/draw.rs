@@ -58,6 +58,15 @@ pub fn draw(record: &Record, name: &str, last: &str) -> String {
     whole(&svg, below + legend::HEIGHT, name)
 }
 
+/// A long sentence is set smaller, so that it stays on the page.
+fn late_class(sentence: &str) -> &'static str {
+    if sentence.len() > 140 {
+        "late-text long"
+    } else {
+        "late-text"
+    }
+}
+
 fn whole(svg: &Svg, height: f64, name: &str) -> String {
     let (width, high) = (number(WIDTH), number(height));
     let name = super::svg::escaped(name);
@@ -115,7 +124,7 @@ impl Page<'_> {
             format!("{} {collisions}, {frames} on the bus, {ticks} of 1 ms.", totals(&record.seen));
         svg.text(MARGIN, 56.0, "subtitle", Anchor::Start, &line);
         let (class, verdict) = match &record.late {
-            Some((_, late)) => ("late-text", words::late(late)),
+            Some((_, late)) => (late_class(&words::late(late)), words::late(late)),
             None => ("subtitle", format!("{last}: {}", words::KEPT)),
         };
         svg.text(MARGIN, 74.0, class, Anchor::Start, &verdict);

@@ -64,5 +64,6 @@ text { font-family: "DejaVu Sans", Verdana, Arial, sans-serif; font-size: 10px; 
 .fold { fill: #fff; stroke: #888; stroke-width: 0.8; }
 .late { stroke: #c00020; stroke-width: 2; }
 .late-text { fill: #c00020; font-weight: bold; font-size: 11px; }
+.long { font-size: 9px; }
 </style>
 "##;
