@@ -1,13 +1,16 @@
-/* 24 exhibits on one breaker, as firmware would run them on a bus with other equipment: when each is up, and under which alias. */
+/* 24 exhibits on one breaker, as firmware would run them on a bus with other equipment: when each is up, and under which alias.
+ * Beside it a map of what is seen on the bus, as a viewer keeps one. */
 #include "card.h"
 #include <inttypes.h>
 #include <stdio.h>
 
 static uint64_t table[CARD_WORDS];
+static uint64_t map[MAP_WORDS];
 static unsigned now; /* milliseconds since the breaker was switched on */
 
 static const char *const STATES[] = {"Off", "Testing", "Reserved", "Permitted", "Leaving", "Resting", "Silent"};
 static const char MARKS[] = ".trPLzS";
+static const char *const KINDS[] = {"CID", "RID", "AMD", "AME", "AMR", "error report", "reserved frame", "message"};
 
 /* Two pairs of exhibits have Node IDs that are 4,095 apart: they start with one alias. */
 static uint64_t node_id(size_t exhibit) {
@@ -38,19 +41,27 @@ static void show_marks(void) {
         printf("%6u ms  %s\n", now, marks);
 }
 
-/* Which exhibits are up, and under which alias. */
+/* An alias, or that there is none. */
+static void show_alias(uint64_t alias) {
+    if (alias != 0)
+        printf("    %03" PRIX64, alias);
+    else
+        printf("      -");
+}
+
+/* Which exhibits are up, and under which alias: their first one, the one that they test or use, and the one that the map has. */
 static void show_table(void) {
-    printf("\nexhibit  Node ID       state      alias  up\n");
+    printf("\nexhibit  Node ID       state      first  alias    map  up\n");
     for (size_t i = 0; i < CARD_NODES; i++) {
-        uint64_t words[CARD_SEEN_WORDS];
+        uint64_t words[CARD_SEEN_WORDS], first[1] = {0}, found[1] = {0};
         card_look(table, i, words);
-        uint64_t state = words[CARD_SEEN_STATE], alias = words[CARD_SEEN_ALIAS];
-        printf("%7zu  %012" PRIX64 "  %-9s", i, words[CARD_SEEN_ID], STATES[state]);
-        if (alias != 0)
-            printf("    %03" PRIX64, alias);
-        else
-            printf("      -");
-        printf("  %s\n", state == CARD_STATE_PERMITTED ? "yes" : "no");
+        lcc_first_alias(words[CARD_SEEN_ID], first);
+        map_alias_of(map, words[CARD_SEEN_ID], found);
+        printf("%7zu  %012" PRIX64 "  %-9s", i, words[CARD_SEEN_ID], STATES[words[CARD_SEEN_STATE]]);
+        show_alias(first[0]);
+        show_alias(words[CARD_SEEN_ALIAS]);
+        show_alias(found[0]);
+        printf("  %s\n", words[CARD_SEEN_STATE] == CARD_STATE_PERMITTED ? "yes" : "no");
     }
     printf("%s\n\n", card_is_late(table) ? "late: aliases may have met" : "kept: no two exhibits use one alias");
 }
@@ -62,12 +73,14 @@ static void deliver_all(void) {
         }
 }
 
-/* Each exhibit sends all that is due; here a driver would put the frame on the bus. */
+/* Each exhibit sends all that is due; here a driver would put the frame on the bus, where a viewer sees it. */
 static void send_all(void) {
     uint64_t sent[CARD_SENT_WORDS];
     for (size_t i = 0; i < CARD_NODES; i++)
-        while (card_send(table, i, sent) == 0)
+        while (card_send(table, i, sent) == 0) {
+            map_note(map, 0, (uint32_t)sent[CARD_SENT_HEADER], (uint8_t)sent[CARD_SENT_LEN], sent[CARD_SENT_BYTES]);
             deliver_all();
+        }
 }
 
 /* The main loop of firmware, for so many milliseconds. */
@@ -80,12 +93,16 @@ static void run(unsigned milliseconds) {
     }
 }
 
-/* A frame of other equipment, in every inbox until it is delivered. */
-static void foreign(const char *what, uint32_t header, uint8_t len, uint64_t bytes) {
-    uint64_t frame[CARD_FRAME_WORDS];
-    card_foreign(table, 0, header, len, bytes);
+/* A frame of other equipment, in every inbox until it is delivered; its kind as exhibit 0 has it there. */
+static void foreign(const char *what, uint8_t type, uint16_t field, uint64_t alias, uint8_t len, uint64_t bytes) {
+    uint64_t header[1], frame[CARD_FRAME_WORDS], parts[LCC_PARTS_WORDS];
+    lcc_write_header(type, field, (uint16_t)alias, header);
+    card_foreign(table, 0, (uint32_t)header[0], len, bytes);
+    map_note(map, 0, (uint32_t)header[0], len, bytes);
     card_inbox(table, 0, 0, frame);
-    printf("%6u ms  other equipment: %s, %08" PRIX64 "\n", now, what, frame[CARD_FRAME_HEADER]);
+    lcc_read_header((uint32_t)frame[CARD_FRAME_HEADER], parts);
+    printf("%6u ms  other equipment sends under %s: %08" PRIX64 ", %s\n", now, what, frame[CARD_FRAME_HEADER],
+           KINDS[parts[LCC_PARTS_KIND]]);
     deliver_all();
 }
 
@@ -93,13 +110,24 @@ static void foreign(const char *what, uint32_t header, uint8_t len, uint64_t byt
 static void switch_on(void) {
     unsigned on = 0;
     card_new(table);
+    map_new(map);
     for (size_t i = 0; i < CARD_NODES; i++)
         on += card_power_on(table, i, node_id(i)) == 0;
     printf("%u exhibits on; index 24 is refused by %" PRIu64 "\n", on, card_power_on(table, CARD_NODES, 1));
     printf("            exhibits 0 to 23 (t Testing, r Reserved, P Permitted, L Leaving, z Resting, S Silent)\n");
     run(100);
-    foreign("the alias that exhibit 17 tests", UINT32_C(0x195B4000) + (uint32_t)seen(17, CARD_SEEN_ALIAS), 0, 0);
+    foreign("the alias that exhibit 17 tests", 1, 0x15B4, seen(17, CARD_SEEN_ALIAS), 0, 0);
     run(310);
+}
+
+/* A send that fails: the exhibit goes on with the alias that the generator draws. */
+static void fail_once(size_t exhibit) {
+    uint64_t next[LCC_NEXT_WORDS];
+    card_power_on(table, exhibit, node_id(exhibit));
+    card_fail(table, exhibit);
+    lcc_next_alias(node_id(exhibit), next);
+    printf("%6u ms  exhibit %zu could not send: it tests %03" PRIX64 ", the generator draws %03" PRIX64 "\n", now, exhibit,
+           seen(exhibit, CARD_SEEN_ALIAS), next[LCC_NEXT_ALIAS]);
 }
 
 /* Host orders, an alias that other equipment takes, a Node ID that is there twice, a send that fails. */
@@ -110,13 +138,22 @@ static void work(void) {
            seen(3, CARD_SEEN_DUE_HEADER), seen(4, CARD_SEEN_DUE_HEADER));
     run(1);
     card_release(table, 7);
-    foreign("the alias of exhibit 5", UINT32_C(0x195B4000) + (uint32_t)seen(5, CARD_SEEN_ALIAS), 0, 0);
-    foreign("the Node ID of exhibit 9", UINT32_C(0x10701FFF), 6, node_id(9) << 16);
+    foreign("the alias of exhibit 5", 1, 0x15B4, seen(5, CARD_SEEN_ALIAS), 0, 0);
+    foreign("another alias, with the Node ID of exhibit 9", 0, 0x0701, 0xFFF, 6, node_id(9) << 16);
     show_marks();
     run(1);
-    card_power_on(table, 11, node_id(11));
-    card_fail(table, 11);
+    fail_once(11);
     run(50);
+}
+
+/* Whose alias is this, by the map? */
+static void ask(uint16_t alias) {
+    uint64_t id[1];
+    uint64_t answer = map_id_of(map, alias, id);
+    if (answer == 0)
+        printf("alias %03X is that of Node ID %012" PRIX64 "\n", (unsigned)alias, id[0]);
+    else
+        printf("alias %03X: refused by %" PRIu64 ", the map has no such entry\n", (unsigned)alias, answer);
 }
 
 int main(void) {
@@ -124,5 +161,7 @@ int main(void) {
     show_table();
     work();
     show_table();
+    ask(0x265);
+    ask(0x267);
     return 0;
 }

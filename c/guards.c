@@ -15,8 +15,9 @@ struct guarded {
 };
 
 static struct guarded table = {.words = CARD_WORDS}, sent = {.words = CARD_SENT_WORDS}, seen = {.words = CARD_SEEN_WORDS},
-                      frame = {.words = CARD_FRAME_WORDS};
-static struct guarded *const BUFFERS[] = {&table, &sent, &seen, &frame};
+                      frame = {.words = CARD_FRAME_WORDS}, map = {.words = MAP_WORDS}, one = {.words = 1},
+                      parts = {.words = LCC_PARTS_WORDS}, next = {.words = LCC_NEXT_WORDS};
+static struct guarded *const BUFFERS[] = {&table, &sent, &seen, &frame, &map, &one, &parts, &next};
 static unsigned accepted, refused;
 
 #define EACH(b) for (struct guarded *const *b = BUFFERS; b < BUFFERS + sizeof BUFFERS / sizeof *BUFFERS; b++)
@@ -88,6 +89,10 @@ static const size_t FAR = SIZE_MAX;
 #define SENT words(&sent)
 #define SEEN words(&seen)
 #define FRAME words(&frame)
+#define M words(&map)
+#define ONE words(&one)
+#define PARTS words(&parts)
+#define NEXT words(&next)
 
 /* Looking changes no word of the table. */
 static void look(size_t index) {
@@ -226,6 +231,56 @@ static void ends(size_t index) {
     EXPECT(SEEN[CARD_SEEN_ALIAS], 0);
 }
 
+/* An alias with a Node ID, as an AMD defines them. */
+#define AMD(alias, id) M, 0, UINT32_C(0x10701000) + (alias), 6, (id) << 16
+
+static void maps(void) {
+    map_new(M);
+    check_guards("map_new");
+    REFUSED(CARD_REFUSED_ABSENT, map_id_of(M, 0, ONE));
+    REFUSED(CARD_REFUSED_ABSENT, map_id_of(M, 0xFFFF, ONE));
+    REFUSED(CARD_REFUSED_ABSENT, map_alias_of(M, 0, ONE));
+    REFUSED(CARD_REFUSED_ABSENT, map_alias_of(M, UINT64_MAX, ONE));
+    REFUSED(CARD_REFUSED_MALFORMED, map_note(M, 255, UINT32_MAX, 255, UINT64_MAX));
+    for (uint32_t i = 1; i <= MAP_ENTRIES; i++)
+        ACCEPTED(map_note(AMD(i, ID + i)));
+    REFUSED(CARD_REFUSED_FULL, map_note(AMD(0xFFF, ID)));
+    ACCEPTED(map_id_of(M, MAP_ENTRIES, ONE));
+    check_same("map_id_of", &map);
+    EXPECT(ONE[0], ID + MAP_ENTRIES);
+    ACCEPTED(map_alias_of(M, ID + 1, ONE));
+    check_same("map_alias_of", &map);
+    EXPECT(ONE[0], 1);
+    ACCEPTED(map_note(M, 0, UINT32_C(0x10703001), 0, 0));
+    REFUSED(CARD_REFUSED_ABSENT, map_id_of(M, 1, ONE));
+    ACCEPTED(map_note(AMD(0xFFF, ID)));
+}
+
+static void headers(void) {
+    REFUSED(CARD_REFUSED_MALFORMED, lcc_write_header(2, 0, 1, ONE));
+    REFUSED(CARD_REFUSED_MALFORMED, lcc_write_header(0, 0x8000, 1, ONE));
+    REFUSED(CARD_REFUSED_MALFORMED, lcc_write_header(0, 0, 0, ONE));
+    REFUSED(CARD_REFUSED_MALFORMED, lcc_write_header(1, 0, 0x1000, ONE));
+    ACCEPTED(lcc_write_header(0, 0x6101, 0x263, ONE));
+    EXPECT(ONE[0], 0x16101263);
+    REFUSED(CARD_REFUSED_MALFORMED, lcc_read_header(UINT32_C(1) << 29, PARTS));
+    REFUSED(CARD_REFUSED_MALFORMED, lcc_read_header(UINT32_MAX, PARTS));
+    ACCEPTED(lcc_read_header(0x16101263, PARTS));
+    EXPECT(PARTS[LCC_PARTS_TYPE], 0);
+    EXPECT(PARTS[LCC_PARTS_FIELD], 0x6101);
+    EXPECT(PARTS[LCC_PARTS_ALIAS], 0x263);
+    EXPECT(PARTS[LCC_PARTS_KIND], LCC_KIND_CID);
+    EXPECT(PARTS[LCC_PARTS_NUMBER], 6);
+    EXPECT(PARTS[LCC_PARTS_SECTION], 0x101);
+    REFUSED(CARD_REFUSED_BAD_NODE_ID, lcc_first_alias(0, ONE));
+    REFUSED(CARD_REFUSED_BAD_NODE_ID, lcc_first_alias(UINT64_C(1) << 48, ONE));
+    ACCEPTED(lcc_first_alias(ID, ONE));
+    EXPECT(ONE[0], 0x263);
+    REFUSED(CARD_REFUSED_MALFORMED, lcc_next_alias(UINT64_C(1) << 48, NEXT));
+    ACCEPTED(lcc_next_alias(ID, NEXT));
+    EXPECT(NEXT[LCC_NEXT_ALIAS], 0x4F8);
+}
+
 int main(void) {
     EACH(b) fill(*b);
     while_off();
@@ -236,6 +291,9 @@ int main(void) {
     orders(CARD_NODES - 1);
     inboxes(CARD_NODES - 1);
     ends(CARD_NODES - 1);
-    printf("guards: %u calls accepted and %u refused, no word beside a buffer written, none at all by a refusal\n", accepted, refused);
+    maps();
+    headers();
+    printf("guards: %u calls accepted and %u refused: no word beside a buffer is written, none at all by a refusal\n", accepted,
+           refused);
     return 0;
 }
