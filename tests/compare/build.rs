@@ -13,7 +13,7 @@ fn main() {
     let header = format!("{root}/../../c/card.h");
     println!("cargo:rerun-if-changed={header}");
     let header = fs::read_to_string(header).expect("c/card.h");
-    let sizes: String = ["CARD_WORDS"].iter().map(|name| constant(&header, name)).collect();
+    let sizes: String = ["CARD_WORDS", "MAP_WORDS"].iter().map(|name| constant(&header, name)).collect();
     let out = env::var("OUT_DIR").expect("cargo sets it");
     fs::write(format!("{out}/sizes.rs"), sizes).expect("a file in OUT_DIR");
 }

@@ -1,19 +1,34 @@
-//! Compares the operations for C with the other implementation: OPERATIONS commands, and all that is seen after each of them.
-//! First the lists of the stored corpus, which meet every state with every event, then others by chance. SEED may be given.
+//! Compares the operations for C with the other implementation. The table: OPERATIONS commands, and all that is seen after each of
+//! them; first the lists of the stored corpus, which meet every state with every event, then others by chance. Then headers, aliases
+//! and the map. SEED may be given.
 
+use compare::operations::map::{self, Counts};
 use compare::operations::operation::Operation;
-use compare::operations::pair::compare;
-use compare::operations::{cover, list};
+use compare::operations::{cover, headers, list, pair};
 use compare::setting::{fresh_seed, setting};
 use compare::shrink::fewest;
 use reference::generate::corpus;
 use reference::generate::coverage::Coverage;
 use reference::generate::prng::Prng;
+use std::fmt::Display;
 use std::process::exit;
+
+/// How many frames are noted in maps, about so many in each.
+const NOTES: usize = 200_000;
+const NOTES_OF_A_MAP: usize = 400;
 
 fn main() {
     let seed = setting("SEED", 0, fresh_seed());
     let wanted = setting("OPERATIONS", 1, 2_000_000) as usize;
+    compare_tables(seed, wanted);
+    match headers::compare(seed) {
+        Ok(calls) => println!("operations: {calls} calls for headers and aliases agree"),
+        Err(what) => fail(&what),
+    }
+    compare_maps(seed);
+}
+
+fn compare_tables(seed: u64, wanted: usize) {
     let mut run = Run { cover: Coverage::new(), lists: 0, late: 0, done: 0, far: 0, wanted };
     for script in corpus::scripts(corpus::SEED) {
         run.compare(&list::of_script(&script), "of the stored corpus");
@@ -29,7 +44,7 @@ fn main() {
     run.end(seed);
 }
 
-/// What was compared so far.
+/// What was compared of tables so far.
 struct Run {
     cover: Coverage,
     lists: usize,
@@ -41,9 +56,12 @@ struct Run {
 
 impl Run {
     fn compare(&mut self, list: &[Operation], whose: &str) {
-        match compare(list, &mut self.cover) {
+        match pair::compare(list, &mut self.cover) {
             Ok(late) => self.late += usize::from(late),
-            Err(what) => report(list, whose, &what),
+            Err(what) => {
+                let differs = |less: &[Operation]| pair::compare(less, &mut Coverage::new()).err();
+                report(list, whose, &what, "card_new(table);", differs);
+            }
         }
         self.show_progress(list.len());
         self.lists += 1;
@@ -62,8 +80,7 @@ impl Run {
     fn end(&self, seed: u64) {
         let unmet = self.cover.unmet_cells();
         if !unmet.is_empty() {
-            println!("operations: these states and events never met, though they can: {unmet:?}");
-            exit(1);
+            fail(&format!("these states and events never met, though they can: {unmet:?}"));
         }
         let Run { lists, late, done, far, .. } = self;
         println!("operations: {done} commands agree, SEED={seed}: in {lists} lists, {late} of them late;");
@@ -72,19 +89,52 @@ impl Run {
     }
 }
 
+fn compare_maps(seed: u64) {
+    let mut counts = Counts::default();
+    for number in 0.. {
+        if counts.notes >= NOTES {
+            break;
+        }
+        let seed = seed.wrapping_add(number);
+        let mut rng = Prng::new(seed);
+        let count = rng.between(1, 2 * NOTES_OF_A_MAP);
+        let notes = map::notes(&mut rng, count);
+        if let Err(what) = map::compare(&notes, &mut counts) {
+            let differs = |less: &[map::Note]| map::compare(less, &mut Counts::default()).err();
+            report(&notes, &format!("made by SEED={seed}"), &what, "map_new(map);", differs);
+        }
+    }
+    let Counts { notes, malformed, full, look_ups, found } = counts;
+    if malformed.min(full).min(found) == 0 {
+        fail("the notes never met 9, 12 or an entry");
+    }
+    println!(
+        "operations: {notes} notes agree, {malformed} refused by 9, {full} by 12; and {look_ups} look-ups, {found} of them found"
+    );
+}
+
+fn fail(what: &str) -> ! {
+    println!("operations: {what}");
+    exit(1);
+}
+
 /// Prints the shortest list found that still differs, as calls in C, and ends the run.
-fn report(list: &[Operation], whose: &str, what: &str) -> ! {
-    eprintln!("operations: {what}; leaving out operations ..");
-    let differs = |less: &[Operation]| compare(less, &mut Coverage::new()).err();
+fn report<T: Clone + PartialEq + Display>(
+    list: &[T],
+    whose: &str,
+    what: &str,
+    start: &str,
+    differs: impl Fn(&[T]) -> Option<String>,
+) -> ! {
+    eprintln!("operations: {what}; leaving out calls ..");
     let list = fewest(list.to_vec(), |less| differs(less).is_some());
     println!("/* operations: a list {whose} differs; of it this is enough: */");
-    println!("card_new(table);");
+    println!("{start}");
     for run in list.chunk_by(|one, next| one == next) {
         match run {
             [one] => println!("{one}"),
             more => println!("for (int i = 0; i < {}; i++) {}", more.len(), more[0]),
         }
     }
-    println!("/* {} */", differs(&list).unwrap_or_default());
-    exit(1);
+    fail(&differs(&list).unwrap_or_default());
 }

@@ -1,7 +1,39 @@
-//! The operations of card_api against the other implementation, command by command.
+//! The operations for C against the other implementation, call by call.
 
 pub mod cover;
+pub mod headers;
 pub mod list;
+pub mod map;
 pub mod operation;
 pub mod pair;
-pub mod proved;
+
+use crate::card::MARK;
+use reference::Refusal;
+use std::fmt::Debug;
+
+/// An answer: 0 or the refusal's number, and the buffer that was lent, all `MARK` before.
+pub type Answered<const N: usize> = (u64, [u64; N]);
+
+/// What a call answers that is lent a buffer.
+pub fn put_out<const N: usize>(call: impl FnOnce(&mut [u64; N]) -> u64) -> Answered<N> {
+    let mut buffer = [MARK; N];
+    (call(&mut buffer), buffer)
+}
+
+/// A refusal leaves the buffer as it was.
+pub fn refused<const N: usize>(refusal: Refusal) -> Answered<N> {
+    (refusal.number().into(), [MARK; N])
+}
+
+/// The other implementation's answer, its value as words.
+pub fn answered<const N: usize, T>(answer: Result<T, Refusal>, words: impl FnOnce(T) -> [u64; N]) -> Answered<N> {
+    answer.map_or_else(refused, |value| (0, words(value)))
+}
+
+/// Fails with both values where they differ.
+pub fn same<T: PartialEq + Debug>(what: impl Fn() -> String, proved: T, plain: T) -> Result<(), String> {
+    if proved == plain {
+        return Ok(());
+    }
+    Err(format!("{}: proved {proved:X?}, plain Rust {plain:X?}", what()))
+}

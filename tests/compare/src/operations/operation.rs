@@ -1,6 +1,7 @@
 //! A command by its operation, with operands that a script cannot carry too.
 
-use super::proved::{Answered, Card, MARK};
+use super::{put_out, Answered};
+use crate::card::{Card, MARK};
 use reference::generate::coverage::Coverage;
 use reference::{Answer, Command, Frame, Segment};
 use std::fmt;
@@ -76,7 +77,7 @@ impl Operation {
     pub fn proved(&self, card: &mut Card) -> Answered<3> {
         let code = match *self {
             Operation::PowerOn { index, id } => card.power_on(index, id),
-            Operation::Send { index } => return card.send(index),
+            Operation::Send { index } => return put_out(|sent| card.send(index, sent)),
             Operation::Fail { index } => card.fail(index),
             Operation::Deliver { index } => card.deliver(index),
             Operation::Tick => card.tick(),

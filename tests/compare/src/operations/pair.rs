@@ -1,9 +1,10 @@
 //! Both implementations side by side: after each operation all that can be seen of either is compared.
 
 use super::operation::Operation;
-use super::proved::{Answered, Card, MARK};
+use super::{answered, put_out, refused, same};
+use crate::card::{Card, MARK};
 use reference::generate::coverage::Coverage;
-use reference::{Alias, Answer, Frame, Node, Refusal, Segment, State};
+use reference::{Alias, Frame, Node, Refusal, Segment, State};
 
 /// Indexes and places that no node and no frame has.
 const NO_INDEX: [usize; 6] = [Segment::PLACES, 25, 255, 256, 1 << 32, usize::MAX];
@@ -32,14 +33,6 @@ pub fn compare(operations: &[Operation], cover: &mut Coverage) -> Result<bool, S
     Ok(pair.card.is_late())
 }
 
-/// Fails with both values where they differ.
-fn same<T: PartialEq + std::fmt::Debug>(what: impl Fn() -> String, proved: T, plain: T) -> Result<(), String> {
-    if proved == plain {
-        return Ok(());
-    }
-    Err(format!("{}: proved {proved:X?}, plain Rust {plain:X?}", what()))
-}
-
 impl Pair {
     pub fn new() -> Pair {
         let card = Card::new();
@@ -51,7 +44,7 @@ impl Pair {
     pub fn step(&mut self, operation: &Operation, cover: &mut Coverage) -> Result<(), String> {
         self.operations += 1;
         let proved = operation.proved(&mut self.card);
-        let plain = answered(&operation.plain(&mut self.segment, cover));
+        let plain = answered(operation.plain(&mut self.segment, cover), sent_words);
         same(|| format!("{operation} answers"), proved, plain)?;
         if proved.0 != 0 && self.card.words() != self.words {
             return Err(format!("{operation} is refused and changes the table"));
@@ -70,12 +63,16 @@ impl Pair {
         for index in 0..Segment::PLACES {
             let node = self.segment.node(index);
             let seen = seen(node, self.segment.inbox_len(index));
-            same(|| format!("card_look(table, {index}, seen)"), self.card.look(index), (0, seen))?;
+            same(|| format!("card_look(table, {index}, seen)"), put_out(|words| self.card.look(index, words)), (0, seen))?;
             self.look_in(index)?;
         }
         let index = NO_INDEX[self.operations % NO_INDEX.len()];
-        same(|| format!("card_look(table, {index}, seen)"), self.card.look(index), refused(Refusal::NoSuchIndex))?;
-        let frame = self.card.inbox(index, self.operations % 32);
+        same(
+            || format!("card_look(table, {index}, seen)"),
+            put_out(|seen| self.card.look(index, seen)),
+            refused(Refusal::NoSuchIndex),
+        )?;
+        let frame = put_out(|frame| self.card.inbox(index, self.operations % 32, frame));
         same(|| format!("card_inbox(table, {index}, ..)"), frame, refused(Refusal::NoSuchIndex))?;
         if self.card.words() != self.words {
             return Err("looking changes the table".to_string());
@@ -87,29 +84,21 @@ impl Pair {
     fn look_in(&self, index: usize) -> Result<(), String> {
         let mut count = 0;
         for (frame, _) in self.segment.inbox(index) {
-            let proved = self.card.inbox(index, count);
+            let proved = put_out(|frame| self.card.inbox(index, count, frame));
             same(|| format!("card_inbox(table, {index}, {count}, frame)"), proved, (0, frame_words(frame)))?;
             count += 1;
         }
         for place in [count, NO_PLACE[self.operations % NO_PLACE.len()]] {
-            let proved = self.card.inbox(index, place);
+            let proved = put_out(|frame| self.card.inbox(index, place, frame));
             same(|| format!("card_inbox(table, {index}, {place}, frame)"), proved, refused(Refusal::InboxEmpty))?;
         }
         Ok(())
     }
 }
 
-fn refused<const N: usize>(refusal: Refusal) -> Answered<N> {
-    (refusal.number().into(), [MARK; N])
-}
-
-/// An answer as c/card.h gives it.
-fn answered(answer: &Answer) -> Answered<3> {
-    match answer {
-        Ok(Some(frame)) => (0, [frame.header.into(), frame.len.into(), u64::from_be_bytes(frame.data)]),
-        Ok(None) => (0, [MARK; 3]),
-        Err(refusal) => refused(*refusal),
-    }
+/// The words of the frame that left, if one did.
+fn sent_words(sent: Option<Frame>) -> [u64; 3] {
+    sent.map_or([MARK; 3], |frame| [frame.header.into(), frame.len.into(), u64::from_be_bytes(frame.data)])
 }
 
 fn frame_words(frame: &Frame) -> [u64; 4] {
@@ -148,7 +137,7 @@ mod tests {
     #[test]
     fn what_only_one_side_does_is_found() {
         let alone: [fn(&mut Pair); 5] = [
-            |pair| _ = pair.card.send(3),
+            |pair| _ = pair.card.send(3, &mut [0; 3]),
             |pair| _ = pair.card.fail(3),
             |pair| _ = pair.card.foreign(0, 0x1070_0263, 0, 0),
             |pair| _ = pair.segment.power_on(9, 1),
