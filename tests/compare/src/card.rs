@@ -35,12 +35,12 @@ pub const MARK: u64 = 0x9E37_79B9_7F4A_7C15;
 
 /// So many words between guards.
 struct Guarded<const ALL: usize> {
-    all: Box<[u64; ALL]>,
+    all: [u64; ALL],
 }
 
 impl<const ALL: usize> Guarded<ALL> {
     fn new() -> Self {
-        Guarded { all: Box::new([MARK; ALL]) }
+        Guarded { all: [MARK; ALL] }
     }
 
     fn words(&self) -> &[u64] {
