@@ -29,17 +29,19 @@ crates_below() { # a crate
 
 # Reads what rt says. A crate is named once it takes longer than a second, so that proved ones go by in silence.
 show_progress() { # the crates in order
-    local crates=("$@") at=0 said=0 status line
+    local left=" $* " said="" status line crate
     while true; do
         status=0
         read -r -t 1 line || status=$?
         if [ $status -eq 0 ]; then
-            [[ $line != "rt: ${crates[at]:-} proved"* ]] || at=$((at + 1))
+            [[ $line =~ ^rt:\ ([a-z_]+)\ proved ]] && left=${left/ ${BASH_REMATCH[1]} / }
         elif [ $status -le 128 ]; then
             return
-        elif [ $said -le $at ] && [ $at -lt $# ]; then
-            said=$((at + 1))
-            echo "run: proving crate $said of $#, ${crates[at]} .." >&2
+        else
+            read -r crate _ <<<"$left"
+            [ -n "$crate" ] && [ "$crate" != "$said" ] || continue
+            said=$crate
+            echo "run: proving crate $(($# - $(wc -w <<<"$left") + 1)) of $#, $crate .." >&2
         fi
     done
 }
