@@ -9,7 +9,7 @@ use lib.ListN.{length, getD, set, length-set, length-append}
 use lib.Seq.{getD-append-seam}
 use borrow.Author.Tests.{eq-eqb, eqb-true, ltb-true, ltb-false, le-leb, lt-leb}
 use Rattle.alias_map.specs.Rules.{Answer, accepted, refused, after, aliasIn, idIn, room, hasAlias, hasId, hasEither, without, add, first}
-use Rattle.alias_map.specs.Words.{words, entryFrom, entryAt, entriesIn, entriesOf}
+use Rattle.alias_map.specs.Words.{entryFrom, entryAt, entriesIn, entriesOf}
 use Rattle.alias_map.specs.Answers.{Gives}
 use Rattle.alias_map.specs.Parts.{Counted, Before, Found, Kept, Removed}
 use Rattle.alias_map.specs.Laws.{without-append}

@@ -11,7 +11,7 @@ use Rattle.headers.specs.Frames.{malformed}
 use Rattle.headers.specs.declared.frame.Frame.{Frame}
 use Rattle.alias_map.specs.Rules.{Answer, accepted, refused, refuse, aliasIn, kindIn, Kind, cid, rid, amd, ame, amr, errorReport, reserved, message, room, hasAlias, hasId, hasEither, without, add, define, noteKind, entryIn, note, after}
 use Rattle.alias_map.specs.Words.{entriesOf}
-use Rattle.alias_map.specs.Answers.{refusalAs, answerAs, Gives}
+use Rattle.alias_map.specs.Answers.{refusalAs, Gives}
 use Rattle.alias_map.specs.Laws.{Implies, like-alias, like-id, without-length, count, count-append, count-without, count-removed}
 use Rattle.alias_map.specs.declared.entry.Entry.{Entry}
 use Rattle.alias_map.specs.declared.answer.Answer as A

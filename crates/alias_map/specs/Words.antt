@@ -1,5 +1,5 @@
 -- The words of a map, seen as its entries. The layout is that of src/layout.rt.
-use Prim.Native.Nat.{ℕ, suc, _+_, _/_, _%_, _^_, min}
+use Prim.Native.Nat.{ℕ, _+_, _/_, _%_, _^_, min}
 use mathlib.Core.List.{List, map}
 use lib.ListN.{getD, take}
 use Rattle.alias_map.specs.Rules.{room}

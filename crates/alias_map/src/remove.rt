@@ -2,7 +2,6 @@
 use crate::entry::Key;
 use crate::entry::entry_in;
 use crate::layout::WORDS;
-ghost use mathlib.Core.Path.{_≡_};
 ghost use Prim.Native.Nat.{_≤_};
 ghost use Rattle.alias_map.specs.Rules.{room};
 ghost use Rattle.alias_map.specs.Answers.{keyAs};

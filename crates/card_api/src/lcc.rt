@@ -11,7 +11,6 @@ use headers::header::Written;
 use node::answer::Answer;
 use node::answer::Refusal;
 ghost use mathlib.Core.Path.{_≡_};
-ghost use mathlib.Core.List.{_∷_, []};
 ghost use Prim.Native.Nat.{_<_};
 ghost use Rattle.headers.specs.Rules.{read, firstAlias, nextAlias};
 ghost use Rattle.headers.specs.Answers.{typeOf, kindAs, partsAs};

@@ -1,4 +1,3 @@
-use mathlib.Core.Path.{ap, sym, _∙_}
 use borrow.Author.Needs.{needs}
 use Rattle.alias_map.specs.Rules.{noteKind}
 use Rattle.alias_map.proofs.Given.{unchanged}

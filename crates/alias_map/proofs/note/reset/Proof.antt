@@ -1,5 +1,4 @@
 use borrow.Author.Needs.{needs}
-use Rattle.alias_map.specs.Rules.{hasAlias}
 use Rattle.alias_map.proofs.Given.{gives-none, gives-fewer}
 use Rattle.alias_map.proofs.note.reset.Statement.{statement}
 use Rattle.alias_map.proofs.note.reset.Tie as tie
