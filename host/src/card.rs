@@ -12,21 +12,7 @@ type Sent = [u64; 3];
 type Look = [u64; 12];
 type Held = [u64; 4];
 
-extern "C" {
-    fn card_new(table: *mut u64);
-    fn card_is_late(table: *const u64) -> u64;
-    fn card_power_on(table: *mut u64, index: usize, id: u64) -> u64;
-    fn card_send(table: *mut u64, index: usize, sent: *mut u64) -> u64;
-    fn card_fail(table: *mut u64, index: usize) -> u64;
-    fn card_deliver(table: *mut u64, index: usize) -> u64;
-    fn card_tick(table: *mut u64) -> u64;
-    fn card_foreign(table: *mut u64, kind: u8, header: u32, len: u8, bytes: u64) -> u64;
-    fn card_message(table: *mut u64, index: usize, field: u16, len: u8, bytes: u64) -> u64;
-    fn card_enquiry(table: *mut u64, index: usize, len: u8, bytes: u64) -> u64;
-    fn card_release(table: *mut u64, index: usize) -> u64;
-    fn card_look(table: *const u64, index: usize, seen: *mut u64) -> u64;
-    fn card_inbox(table: *const u64, index: usize, place: usize, frame: *mut u64) -> u64;
-}
+include!(concat!(env!("CARGO_MANIFEST_DIR"), "/../c/card.rs"));
 
 /// What a command was answered.
 #[derive(Clone, Copy, Debug, PartialEq, Eq)]

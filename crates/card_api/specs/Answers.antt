@@ -3,17 +3,12 @@ use mathlib.Core.Path.{_≡_}
 use mathlib.Core.Bool.{Bool, true, false}
 use mathlib.Core.List.{List, [], _∷_}
 use Prim.Native.Nat.{ℕ}
-use Rattle.node.specs.Answers.{refusalAs}
+use Rattle.node.specs.Answers.{answerAs}
 use Rattle.node.specs.declared.answer.Answer.{Answer}
 use Rattle.node.specs.declared.answer.Answer.the-variants.{Accepted, Sent, Refused}
+use Rattle.card_api.specs.Out.{codeOf}
 use Rattle.table.specs.Rules.{Command}
 use Rattle.table.specs.Promise.{Does}
-
--- 0 where accepted, else the refusal's number.
-abbrev pub codeOf : Answer → ℕ
-codeOf Accepted = 0
-codeOf (Sent f) = 0
-codeOf (Refused r) = refusalAs r
 
 abbrev pub lateCode : Bool → ℕ
 lateCode true = 1
@@ -22,7 +17,7 @@ lateCode false = 0
 -- The command has an answer, r is its number, and the words are as the command promises.
 pub record Coded (c : Command) (t : List ℕ) (r : ℕ) (t′ : List ℕ) : Type 0 where
   pub answer : Answer
-  pub code : r ≡ codeOf answer
+  pub code : r ≡ codeOf (answerAs answer)
   pub does : Does c t answer t′
 
 -- Three words for the frame that left: its header, its length and its data; as they were where none did.
@@ -33,6 +28,6 @@ SentWords (Refused r) ws ws′ = ws′ ≡ ws
 
 pub record CodedSend (c : Command) (t : List ℕ) (r : ℕ) (t′ ws ws′ : List ℕ) : Type 0 where
   pub answer : Answer
-  pub code : r ≡ codeOf answer
+  pub code : r ≡ codeOf (answerAs answer)
   pub does : Does c t answer t′
   pub frame : SentWords answer ws ws′

@@ -1,17 +1,16 @@
 -- The map for C: a note's answer as a number, and what the operation promises of it: what the note that it calls promises.
 use mathlib.Core.Path.{_≡_}
-use mathlib.Core.List.{List}
+use mathlib.Core.List.{List, []}
 use Prim.Native.Nat.{ℕ}
 use Rattle.headers.specs.declared.frame.Frame.{Frame}
-use Rattle.alias_map.specs.Answers.{refusalAs}
+use Rattle.alias_map.specs.Answers.{answerAs}
 use Rattle.alias_map.specs.Sound.{Notes}
 use Rattle.alias_map.specs.declared.answer.Answer.{Answer}
-use Rattle.alias_map.specs.declared.answer.Answer.the-variants.{Accepted, Refused}
+use Rattle.card_api.specs.Out.{codeOf}
 
--- 0 where accepted, else the refusal's number.
+-- The number of a note's answer, whatever entries it leaves.
 abbrev pub noteCode : Answer → ℕ
-noteCode Accepted = 0
-noteCode (Refused r) = refusalAs r
+noteCode a = codeOf (answerAs a [])
 
 -- The note has an answer, r is its number, and the words are as the note promises.
 pub record CodedNote (f : Frame) (t : List ℕ) (r : ℕ) (t′ : List ℕ) : Type 0 where

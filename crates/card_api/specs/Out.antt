@@ -6,9 +6,9 @@ use Rattle.headers.specs.Rules.{Answer, accepted, refused}
 
 module _ {A : Type 0} where
   -- 0 where accepted, else the refusal's number.
-  abbrev pub numberOf : Answer A → ℕ
-  numberOf (accepted x) = 0
-  numberOf (refused number) = number
+  abbrev pub codeOf : Answer A → ℕ
+  codeOf (accepted x) = 0
+  codeOf (refused number) = number
 
   -- What the buffer holds then: the value's words; as it was where the answer is a refusal.
   abbrev pub outOf : (A → List ℕ) → Answer A → (before : List ℕ) → List ℕ
@@ -16,7 +16,7 @@ module _ {A : Type 0} where
   outOf words (refused number) before = before
 
   pub record Out (words : A → List ℕ) (a : Answer A) (r : ℕ) (before after : List ℕ) : Type 0 where
-    pub number : r ≡ numberOf a
+    pub number : r ≡ codeOf a
     pub out : after ≡ outOf words a before
 
   -- what is put out for one answer is put out for its equal

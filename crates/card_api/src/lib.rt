@@ -10,11 +10,13 @@ use table::layout::WORDS;
 ghost use mathlib.Core.Path.{_≡_};
 ghost use Rattle.table.specs.Rules.{powerOn, send, fail, deliver, tick, foreign, message, enquiry, release};
 ghost use Rattle.table.specs.Words.{Fresh, lateOf};
-ghost use Rattle.card_api.specs.Answers.{codeOf, lateCode, Coded, SentWords, CodedSend};
+ghost use Rattle.node.specs.Answers.{answerAs};
+ghost use Rattle.card_api.specs.Out.{codeOf};
+ghost use Rattle.card_api.specs.Answers.{lateCode, Coded, SentWords, CodedSend};
 
 // 0 where accepted, else the refusal's number.
 fn code(a: Answer) -> u64
-    ensures { λ r. ⌜ r ≡ codeOf a ⌝ }
+    ensures { λ r. ⌜ r ≡ codeOf (answerAs a) ⌝ }
 {
     match a {
         Answer::Accepted => 0,

@@ -64,40 +64,37 @@ fn plain_read(header: u32) -> Result<(Header, Kind), Refusal> {
     header::read(header).map(|parts| (parts, parts.kind()))
 }
 
-fn by_alias(name: &'static str, number: u64) -> Row {
-    let ((proved, plain), (alias, id)) = (full(), entry(number));
+/// Looking `key` up in a full map, which gives `value`, or 13 where there is none.
+fn looking_up<K: Copy + 'static>(
+    name: &'static str,
+    (key, value): (K, Option<u64>),
+    proved_call: impl Fn(&ProvedMap, K, &mut [u64; 1]) -> u64 + 'static,
+    plain_call: impl Fn(&AliasMap, K, &mut [u64; 1]) -> u64 + 'static,
+) -> Row {
+    let (proved, plain) = full();
     let (mut found, mut plain_found) = ([0], [0]);
-    let absent = number > 63;
-    let answer = if absent { 13 } else { 0 };
-    assert_eq!((proved.id_of(alias, &mut found), plain_id_of(&plain, alias, &mut plain_found)), (answer, answer));
-    assert_eq!((found, plain_found), ([if absent { 0 } else { id }], found));
+    let answer = if value.is_some() { 0 } else { 13 };
+    assert_eq!((proved_call(&proved, key, &mut found), found[0]), (answer, value.unwrap_or(0)));
+    assert_eq!((plain_call(&plain, key, &mut plain_found), plain_found), (answer, found));
     Row {
         name,
         proved: Box::new(move |_| {
-            black_box(proved.id_of(black_box(alias), &mut found));
+            black_box(proved_call(&proved, black_box(key), &mut found));
         }),
         plain: Box::new(move |_| {
-            black_box(plain_id_of(&plain, black_box(alias), &mut plain_found));
+            black_box(plain_call(&plain, black_box(key), &mut plain_found));
         }),
     }
 }
 
+fn by_alias(name: &'static str, number: u64) -> Row {
+    let (alias, id) = entry(number);
+    looking_up(name, (alias, (number < 64).then_some(id)), ProvedMap::id_of, plain_id_of)
+}
+
 fn by_id(name: &'static str, number: u64) -> Row {
-    let ((proved, plain), (alias, id)) = (full(), entry(number));
-    let (mut found, mut plain_found) = ([0], [0]);
-    let absent = number > 63;
-    let answer = if absent { 13 } else { 0 };
-    assert_eq!((proved.alias_of(id, &mut found), plain_alias_of(&plain, id, &mut plain_found)), (answer, answer));
-    assert_eq!((found, plain_found), ([if absent { 0 } else { alias.into() }], found));
-    Row {
-        name,
-        proved: Box::new(move |_| {
-            black_box(proved.alias_of(black_box(id), &mut found));
-        }),
-        plain: Box::new(move |_| {
-            black_box(plain_alias_of(&plain, black_box(id), &mut plain_found));
-        }),
-    }
+    let (alias, id) = entry(number);
+    looking_up(name, (id, (number < 64).then_some(alias.into())), ProvedMap::alias_of, plain_alias_of)
 }
 
 /// AMDs noted in a full map, `answered` so each time: those of the entries from `first` on, again and again.
