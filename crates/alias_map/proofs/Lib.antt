@@ -1,3 +1,4 @@
+-- Laws that the proofs of the crate's functions share, in the order of their use.
 pub mod Hits
 pub mod Places
 pub mod Given

@@ -1,3 +1,4 @@
+-- What the crate's contracts cite and what is proved of it, in reading order.
 pub mod Claim
 pub mod Single
 pub mod Seen
