@@ -3,9 +3,9 @@ use mathlib.Core.Path.{_≡_}
 use mathlib.Core.Bool.{Bool, true, false}
 use mathlib.Core.List.{List, [], _∷_}
 use Prim.Native.Nat.{ℕ}
-use Rattle.node.specs.Answers.{answerAs}
-use Rattle.node.specs.declared.answer.Answer.{Answer}
-use Rattle.node.specs.declared.answer.Answer.the-variants.{Accepted, Sent, Refused}
+use Rattle.state.specs.Answers.{answerAs}
+use Rattle.state.specs.declared.Answer.{Answer}
+use Rattle.state.specs.declared.Answer.the-variants.{Accepted, Sent, Refused}
 use Rattle.card_api.specs.Out.{codeOf}
 use Rattle.table.specs.Rules.{Command}
 use Rattle.table.specs.Promise.{Does}

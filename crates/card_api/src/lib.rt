@@ -5,12 +5,12 @@ pub mod look;
 pub mod map;
 
 use headers::frame::Frame;
-use node::answer::Answer;
+use state::Answer;
 use table::layout::WORDS;
 ghost use mathlib.Core.Path.{_≡_};
 ghost use Rattle.table.specs.Rules.{powerOn, send, fail, deliver, tick, foreign, message, enquiry, release};
 ghost use Rattle.table.specs.Words.{Fresh, lateOf};
-ghost use Rattle.node.specs.Answers.{answerAs};
+ghost use Rattle.state.specs.Answers.{answerAs};
 ghost use Rattle.card_api.specs.Out.{codeOf};
 ghost use Rattle.card_api.specs.Answers.{lateCode, Coded, SentWords, CodedSend};
 

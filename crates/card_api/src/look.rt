@@ -1,12 +1,12 @@
 // Looking at a node, for C: what is seen of it, and the frames of its inbox, as words. A refusal writes none.
 use headers::frame::Frame;
-use node::due::Due;
+use state::Due;
 use table::layout::WORDS;
 use table::look::Found;
 use table::look::Looked;
 use table::look::Seen;
 ghost use mathlib.Core.Path.{_≡_};
-ghost use Rattle.node.specs.Answers.{dueAs};
+ghost use Rattle.state.specs.Answers.{dueAs};
 ghost use Rattle.table.specs.Looks.{looks, looksIn};
 ghost use Rattle.table.specs.Answers.{seenAs};
 ghost use Rattle.table.specs.Words.{view};

@@ -8,10 +8,10 @@ use native.Mathlib.Omega.{arith}
 use lib.Dec.{ltb}
 use borrow.Author.Tests.{not-true, lt-ltb, ltb-true}
 use Rattle.node.specs.Rules.{Answer, accepted, refused, Value, timedFor, wait, uses, offNode, next, dueOf}
-use Rattle.node.specs.Answers.{answerAs}
-use Rattle.node.specs.declared.answer.Answer as A
+use Rattle.state.specs.Answers.{answerAs}
+use Rattle.state.specs.declared.Answer as A
 use Rattle.headers.specs.declared.frame.Frame.{Frame}
-use Rattle.node.specs.declared.state.Node.{Node}
+use Rattle.node.specs.declared.Node.{Node}
 use Rattle.table.specs.Rules.{
   places,
   limit,

@@ -50,10 +50,10 @@ use Rattle.node.specs.Rules.{
   tick,
   outcome,
 }
-use Rattle.node.specs.declared.state.Node.{Node}
-use Rattle.node.specs.declared.state.Host.{Host}
-use Rattle.node.specs.declared.state.Phase.the-variants.{Leaving}
-use Rattle.node.specs.declared.state.Reason.the-variants.{Release}
+use Rattle.node.specs.declared.Node.{Node}
+use Rattle.state.specs.declared.Host.{Host}
+use Rattle.state.specs.declared.Phase.the-variants.{Leaving}
+use Rattle.state.specs.declared.Reason.the-variants.{Release}
 
 abbrev pub TwoDigits : Answer Value → Type 0
 TwoDigits (accepted v) = Unit {0}

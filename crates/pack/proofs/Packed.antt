@@ -6,10 +6,10 @@ use mathlib.Core.Bool.{Bool, true, false, cond}
 use lib.Dec.{ltb, eqb}
 use Rattle.node.specs.Rules.{isOff}
 use Rattle.headers.specs.declared.frame.Frame.{Frame}
-use Rattle.node.specs.declared.state.Node.{Node}
-use Rattle.node.specs.declared.state.Phase.the-variants.{Off, Testing, Reserved, Permitted, Leaving, Resting, Silent}
-use Rattle.node.specs.declared.state.Reason.the-variants.{Collision, Release}
-use Rattle.node.specs.declared.state.Host.the-variants.{Message, Enquiry}
+use Rattle.node.specs.declared.Node.{Node}
+use Rattle.state.specs.declared.Phase.the-variants.{Off, Testing, Reserved, Permitted, Leaving, Resting, Silent}
+use Rattle.state.specs.declared.Reason.the-variants.{Collision, Release}
+use Rattle.state.specs.declared.Host.the-variants.{Message, Enquiry}
 use Rattle.pack.specs.Words.{frameFrom, round, stampIn, phaseFrom, phaseAt, phaseIn, hostFrom, hostAt, StateOf}
 
 -- the lowest digit of a number

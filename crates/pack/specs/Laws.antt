@@ -5,7 +5,7 @@ use Prim.Native.Nat.{ℕ, _<_}
 use native.Mathlib.Omega.{arith}
 use lib.ListN.{getD}
 use Rattle.node.specs.Rules.{offNode}
-use Rattle.node.specs.declared.state.Node.{Node}
+use Rattle.node.specs.declared.Node.{Node}
 use Rattle.pack.specs.Words.{aliasFrom, phaseAt, phaseIn, hostAt, hostBytes, waitingFrom, nodeWords, nodeFrom, StateOf}
 
 pub node-same : (v w : ℕ → ℕ) → ((j : ℕ) → j < nodeWords → v j ≡ w j) → nodeFrom v ≡ nodeFrom w

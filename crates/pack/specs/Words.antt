@@ -5,15 +5,15 @@ use mathlib.Core.Bool.{Bool, cond}
 use lib.Dec.{ltb, eqb}
 use Rattle.headers.specs.declared.alias.Alias.{Alias}
 use Rattle.headers.specs.declared.frame.Frame.{Frame}
-use Rattle.node.specs.declared.state.Node.{Node}
-use Rattle.node.specs.declared.state.Phase.{Phase}
-use Rattle.node.specs.declared.state.Phase.the-variants.{Off, Testing, Reserved, Permitted, Leaving, Resting, Silent}
-use Rattle.node.specs.declared.state.Reason.the-variants.{Collision, Release}
-use Rattle.node.specs.declared.state.Waiting.{Waiting}
-use Rattle.node.specs.declared.state.Host.{Host}
-use Rattle.node.specs.declared.state.Host.the-variants.{Empty, Message, Enquiry}
-use Rattle.node.specs.declared.timed.Timed.{Timed}
-use Rattle.node.specs.declared.timed.Timed.the-variants.{Untimed, Reply, Amr}
+use Rattle.node.specs.declared.Node.{Node}
+use Rattle.state.specs.declared.Phase.{Phase}
+use Rattle.state.specs.declared.Phase.the-variants.{Off, Testing, Reserved, Permitted, Leaving, Resting, Silent}
+use Rattle.state.specs.declared.Reason.the-variants.{Collision, Release}
+use Rattle.state.specs.declared.Waiting.{Waiting}
+use Rattle.state.specs.declared.Host.{Host}
+use Rattle.state.specs.declared.Host.the-variants.{Empty, Message, Enquiry}
+use Rattle.state.specs.declared.Timed.{Timed}
+use Rattle.state.specs.declared.Timed.the-variants.{Untimed, Reply, Amr}
 
 -- A FRAME
 

@@ -1,5 +1,5 @@
 // Ages by the clock: how the stamp of what waits goes on, and the ticks since a stamp.
-use node::timed::Timed;
+use state::Timed;
 ghost use mathlib.Core.Path.{_≡_};
 ghost use Rattle.pack.specs.Words.{since, timedAge, stampOn};
 

@@ -2,11 +2,11 @@
 use crate::ages::ROUND;
 use headers::alias::Alias;
 use headers::frame::Frame;
-use node::state::Host;
-use node::state::Node;
-use node::state::Phase;
-use node::state::Reason;
-use node::state::Waiting;
+use node::Node;
+use state::Host;
+use state::Phase;
+use state::Reason;
+use state::Waiting;
 ghost use mathlib.Core.Path.{_≡_};
 ghost use Prim.Native.Nat.{_%_, _^_, _<_};
 ghost use lib.Dec.{eqb};

@@ -6,7 +6,8 @@ use mathlib.Core.List.{List, [], _∷_, _++_}
 use lib.Dec.{leb, eqb}
 use lib.ListN.{length, getD, take, drop}
 use Rattle.text.specs.Rules.{hex, decimal, space, feed}
-use Rattle.node.specs.Rules.{Answer, accepted, refused, Value, done, left, idBytes, packed}
+use Rattle.headers.specs.Rules.{idBytes, packed}
+use Rattle.node.specs.Rules.{Answer, accepted, refused, Value, done, left}
 use Rattle.headers.specs.declared.frame.Frame.{Frame}
 use Rattle.table.specs.Rules.{
   limit,

@@ -9,8 +9,8 @@ use lib.Seq.{drop-drop}
 use Rattle.text.specs.Rules.{sheet, write, Wrote, Printed}
 use Rattle.text.specs.Sheet.{carried, printed}
 use Rattle.node.specs.Rules.{Answer, Value, refused}
-use Rattle.node.specs.Answers.{answerAs}
-use Rattle.node.specs.declared.answer.Answer as A
+use Rattle.state.specs.Answers.{answerAs}
+use Rattle.state.specs.declared.Answer as A
 use Rattle.table.specs.Rules.{limit, start, Command, answer, step, run, isKept}
 use Rattle.table.specs.Words.{lateOf, Fresh}
 use Rattle.table.specs.Promise.{Does}

@@ -1,5 +1,5 @@
 // The lines of a run, put into a lent buffer. What finds no room is dropped, and the place stays at the end.
-use node::answer::Answer;
+use state::Answer;
 use text::buffer::put;
 use text::buffer::put_all;
 use text::decimal::put_decimal;
@@ -8,7 +8,7 @@ use text::hex::put_hex;
 use text::hex::shortened;
 ghost use mathlib.Core.Bool.{not};
 ghost use Rattle.node.specs.Rules.{refused};
-ghost use Rattle.node.specs.Answers.{answerAs};
+ghost use Rattle.state.specs.Answers.{answerAs};
 ghost use Rattle.text.specs.Rules.{sheet, Wrote};
 ghost use Rattle.script.specs.Rules.{answerText, dataText, line, lastLine};
 ghost use Rattle.script.specs.Text.{opening};

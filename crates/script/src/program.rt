@@ -3,7 +3,7 @@ use crate::command::Command;
 use crate::command::Read;
 use crate::lines;
 use crate::reader;
-use node::answer::Answer;
+use state::Answer;
 use table::commands;
 use table::layout::WORDS;
 ghost use mathlib.Core.Path.{_≡_};

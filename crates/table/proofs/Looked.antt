@@ -8,7 +8,7 @@ use lib.ListN.{length, getD, length-map}
 use mathlib.Core.Bool.{Bool, true}
 use Rattle.headers.specs.declared.frame.Frame.{Frame}
 use Rattle.node.specs.Rules.{Answer, accepted, refused, refuse, wait, Due, dueOf}
-use Rattle.node.specs.declared.state.Node.{Node}
+use Rattle.node.specs.declared.Node.{Node}
 use Rattle.table.specs.Rules.{places, inboxRoom, Place}
 use Rattle.table.specs.Looks.{stateNumber, idSeen, aliasSeen, Seen, seen, looks, frameIn, looksIn}
 use Rattle.pack.specs.Words.{frameFrom}

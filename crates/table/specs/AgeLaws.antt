@@ -13,9 +13,9 @@ use Rattle.node.specs.Rules.{Answer, accepted, refused, Value, uses, timedAt, H
 use Rattle.node.specs.Laws.{neither}
 use Rattle.node.specs.Events.{timed-other}
 use Rattle.headers.specs.declared.frame.Frame.{Frame}
-use Rattle.node.specs.declared.state.Node.{Node}
-use Rattle.node.specs.declared.timed.Timed.{Timed}
-use Rattle.node.specs.declared.timed.Timed.the-variants.{Untimed, Reply, Amr}
+use Rattle.node.specs.declared.Node.{Node}
+use Rattle.state.specs.declared.Timed.{Timed}
+use Rattle.state.specs.declared.Timed.the-variants.{Untimed, Reply, Amr}
 use Rattle.table.specs.Rules.{
   places,
   Place,

@@ -1,6 +1,6 @@
 -- What looking answers, in document 01's terms: the number and values for each case of the enums.
 use Rattle.node.specs.Rules.{Answer, accepted, refused}
-use Rattle.node.specs.Answers.{dueAs, refusalAs}
+use Rattle.state.specs.Answers.{dueAs, refusalAs}
 use Rattle.headers.specs.declared.frame.Frame.{Frame}
 use Rattle.table.specs.Looks.{Seen}
 use Rattle.table.specs.declared.look.Seen as S

@@ -6,8 +6,8 @@ use lib.Dec.{leb}
 use lib.ListN.{length}
 use Rattle.node.specs.Rules.{Answer, accepted, refused, refuse, isOff, uses, wait, Due, dueOf}
 use Rattle.headers.specs.declared.frame.Frame.{Frame}
-use Rattle.node.specs.declared.state.Phase.{Phase}
-use Rattle.node.specs.declared.state.Phase.the-variants.{Off, Testing, Reserved, Permitted, Leaving, Resting, Silent}
+use Rattle.state.specs.declared.Phase.{Phase}
+use Rattle.state.specs.declared.Phase.the-variants.{Off, Testing, Reserved, Permitted, Leaving, Resting, Silent}
 use Rattle.table.specs.Rules.{places, Place, Segment}
 
 -- The states by numbers, in document 01's order.

@@ -4,11 +4,11 @@ use mathlib.Core.Bool.{false, _||_}
 use mathlib.Core.List.{List, [], _∷_, map}
 use Prim.Native.Nat.{ℕ, _-_, _%_, _<_, _≤_}
 use Rattle.node.specs.Rules.{refused, timedFor}
-use Rattle.node.specs.Answers.{answerAs}
-use Rattle.node.specs.declared.answer.Answer as A
-use Rattle.node.specs.declared.state.Node.{Node}
-use Rattle.node.specs.declared.timed.Timed.{Timed}
-use Rattle.node.specs.declared.timed.Timed.the-variants.{Untimed, Reply, Amr}
+use Rattle.state.specs.Answers.{answerAs}
+use Rattle.state.specs.declared.Answer as A
+use Rattle.node.specs.declared.Node.{Node}
+use Rattle.state.specs.declared.Timed.{Timed}
+use Rattle.state.specs.declared.Timed.the-variants.{Untimed, Reply, Amr}
 use Rattle.table.specs.Rules.{places, limit, Command, answer, step, Ages, ages, ageStep, ticks, old}
 use Rattle.pack.specs.Words.{round}
 use Rattle.table.specs.Words.{Item, nodeAt, inbox, agesOf, cellAt, lateOf, slackOf, view, viewAges, Held}

@@ -2,7 +2,7 @@ use mathlib.Core.Path.{_≡_}
 use mathlib.Core.List.{List, [], _∷_}
 use Prim.Native.Nat.{ℕ}
 use Rattle.headers.specs.declared.frame.Frame.{Frame}
-use Rattle.node.specs.Answers.{dueAs}
+use Rattle.state.specs.Answers.{dueAs}
 use Rattle.table.specs.declared.look.Seen.{Seen}
 use Rattle.table.specs.Answers.{seenAs}
 use Rattle.card_api.specs.Looks.{dueMark, dueFrame, seenWords}

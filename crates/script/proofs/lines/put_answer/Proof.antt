@@ -3,8 +3,8 @@ use Prim.Native.Nat.{ℕ}
 use Rattle.script.specs.Rules.{answerText}
 use Rattle.text.specs.Sheet.{then, alike}
 use Rattle.node.specs.Rules.{refused}
-use Rattle.node.specs.Answers.{answerAs}
-use Rattle.node.specs.declared.answer.Answer.{Answer}
+use Rattle.state.specs.Answers.{answerAs}
+use Rattle.state.specs.declared.Answer.{Answer}
 use borrow.Author.Needs.{needs}
 use Rattle.script.proofs.lines.put_answer.Statement.{statement}
 use Rattle.script.proofs.lines.put_answer.Tie as tie

@@ -1,5 +1,5 @@
 use mathlib.Core.Path.{sym, ap, _∙_}
-use Rattle.node.specs.Still.{isNothing}
+use Rattle.state.specs.Concerns.{isNothing}
 use Rattle.table.proofs.Changed.{heard-at, unheard-at}
 use borrow.Author.Needs.{needs}
 use Rattle.table.proofs.change.heed.Statement.{statement}

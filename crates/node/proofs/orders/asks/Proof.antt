@@ -1,9 +1,0 @@
-use borrow.Author.Tests.{eq-eqb, ne-eqb}
-use Rattle.node.proofs.orders.asks.Statement.{statement}
-use Rattle.node.proofs.orders.asks.Tie as tie
-
-pub asks-spec : {M : Type 1} → statement M
-asks-spec =
-    tie.close (tie.spec
-    (λ c. simp (eq-eqb _ _ (c .if1 .taken)))
-    (λ c. simp (ne-eqb _ _ (c .if1 .left))))

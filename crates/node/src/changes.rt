@@ -1,0 +1,105 @@
+// The few ways in which a node changes, and the node before its first power-on.
+use crate::Node;
+use crate::Own;
+use headers::alias::Alias;
+use state::Phase;
+use state::Waiting;
+ghost use mathlib.Core.Path.{_≡_};
+ghost use Rattle.node.specs.Rules.{offNode, fresh, moved, counted, waits, restart};
+
+impl Node {
+    // The node before its first power-on.
+    pub fn off() -> Node
+        ensures { λ r. ⌜ r ≡ offNode ⌝ }
+    {
+        let o = Own { id: 0 };
+        let w = Waiting::none();
+        Node {
+            own: o,
+            alias: Alias(0),
+            generator: 0,
+            phase: Phase::Off,
+            waiting: w,
+        }
+    }
+
+    // The node at power-on.
+    pub(crate) fn fresh(id: u64, alias: Alias) -> Node
+        ensures { λ r. ⌜ r ≡ fresh id alias ⌝ }
+    {
+        let o = Own { id: id };
+        let w = Waiting::none();
+        Node {
+            own: o,
+            alias: alias,
+            generator: id,
+            phase: Phase::Testing(0, 0),
+            waiting: w,
+        }
+    }
+
+    // In another state, nothing waiting.
+    pub(crate) fn moved(self, p: Phase) -> Node
+        ensures { λ r. ⌜ r ≡ moved self p ⌝ }
+    {
+        let o = self.own;
+        let a = self.alias;
+        let w = Waiting::none();
+        Node {
+            own: o,
+            alias: a,
+            generator: self.generator,
+            phase: p,
+            waiting: w,
+        }
+    }
+
+    // With another count of CIDs and ticks, in the same state.
+    pub(crate) fn counted(self, p: Phase) -> Node
+        ensures { λ r. ⌜ r ≡ counted self p ⌝ }
+    {
+        let o = self.own;
+        let a = self.alias;
+        let w = self.waiting;
+        Node {
+            own: o,
+            alias: a,
+            generator: self.generator,
+            phase: p,
+            waiting: w,
+        }
+    }
+
+    // With something else waiting.
+    pub(crate) fn waits(self, w: Waiting) -> Node
+        ensures { λ r. ⌜ r ≡ waits self w ⌝ }
+    {
+        let o = self.own;
+        let a = self.alias;
+        let p = self.phase;
+        Node {
+            own: o,
+            alias: a,
+            generator: self.generator,
+            phase: p,
+            waiting: w,
+        }
+    }
+
+    // Testing the next alias.
+    pub(crate) fn restarted(self) -> Node
+        ensures { λ r. ⌜ r ≡ restart self ⌝ }
+    {
+        let g = headers::alias::step_from(self.generator);
+        let a = headers::alias::drawn_from(g);
+        let o = self.own;
+        let w = Waiting::none();
+        Node {
+            own: o,
+            alias: a,
+            generator: g,
+            phase: Phase::Testing(0, 0),
+            waiting: w,
+        }
+    }
+}

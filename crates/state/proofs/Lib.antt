@@ -1,0 +1,2 @@
+-- Laws that the proofs of the crate's functions share, in the order of their use.
+pub mod Tested

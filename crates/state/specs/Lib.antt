@@ -1,0 +1,4 @@
+-- What the crate's contracts cite and what is proved of it, in reading order.
+pub mod Rules
+pub mod Answers
+pub mod Concerns

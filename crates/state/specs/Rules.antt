@@ -1,0 +1,170 @@
+-- Document 01, "One node": its states, what waits at it, the frames it sends and what of a frame it asks, each told without the
+-- whole node. This is the file to believe of the crate.
+use Prim.Native.Nat.{ℕ, _+_, _*_, _/_, _%_, _^_}
+use mathlib.Core.Bool.{Bool, true, false, cond, _&&_}
+use mathlib.Core.List.{List, [], _∷_}
+use lib.Dec.{ltb, eqb}
+pub use Rattle.headers.specs.Rules.{
+  Answer,
+  accepted,
+  refused,
+  refuse,
+  header,
+  aliasIn,
+  kindIn,
+  Kind,
+  cid,
+  rid,
+  amd,
+  ame,
+  amr,
+  errorReport,
+  reserved,
+  message as messageKind,
+  idBytes,
+  packed,
+  idIn,
+}
+use Rattle.headers.specs.declared.frame.Frame.{Frame}
+use Rattle.state.specs.declared.Phase.{Phase}
+use Rattle.state.specs.declared.Phase.the-variants.{Off, Testing, Reserved, Permitted, Leaving, Resting, Silent}
+use Rattle.state.specs.declared.Waiting.{Waiting}
+use Rattle.state.specs.declared.Host.{Host}
+use Rattle.state.specs.declared.Host.the-variants.{Empty, Message, Enquiry}
+use Rattle.state.specs.declared.Timed.{Timed}
+use Rattle.state.specs.declared.Timed.the-variants.{Untimed, Reply, Amr}
+
+-- THE STATES
+
+abbrev pub isOff : Phase → Bool
+isOff Off = true
+isOff (Testing sent ticks) = false
+isOff Reserved = false
+isOff Permitted = false
+isOff (Leaving why) = false
+isOff Resting = false
+isOff Silent = false
+
+abbrev pub isPermitted : Phase → Bool
+isPermitted Off = false
+isPermitted (Testing sent ticks) = false
+isPermitted Reserved = false
+isPermitted Permitted = true
+isPermitted (Leaving why) = false
+isPermitted Resting = false
+isPermitted Silent = false
+
+-- Which frame with an age waits at a node: a reply RID, or an AMR.
+abbrev pub timedAt : Phase → (reply : Bool) → Timed
+timedAt Off reply = Untimed
+timedAt (Testing sent ticks) reply = Untimed
+timedAt Reserved reply = cond reply Reply Untimed
+timedAt Permitted reply = cond reply Reply Untimed
+timedAt (Leaving why) reply = Amr
+timedAt Resting reply = Untimed
+timedAt Silent reply = Untimed
+
+-- The wait, in ticks. The rules that ask for a wait take any.
+abbrev pub wait : ℕ
+wait = 201
+
+-- WHAT WAITS
+
+-- Of each sort one waits at most.
+abbrev pub noneWaiting : Waiting
+noneWaiting = record { reply = false; amd = false; report = false; host = Empty }
+
+abbrev pub withReply : Waiting → Bool → Waiting
+withReply w b = record { reply = b; amd = w .amd; report = w .report; host = w .host }
+
+abbrev pub withAmd : Waiting → Bool → Waiting
+withAmd w b = record { reply = w .reply; amd = b; report = w .report; host = w .host }
+
+abbrev pub withReport : Waiting → Bool → Waiting
+withReport w b = record { reply = w .reply; amd = w .amd; report = b; host = w .host }
+
+abbrev pub withHost : Waiting → Host → Waiting
+withHost w h = record { reply = w .reply; amd = w .amd; report = w .report; host = h }
+
+abbrev pub hostWaits : Host → Bool
+hostWaits Empty = false
+hostWaits (Message field len bytes) = true
+hostWaits (Enquiry len bytes) = true
+
+-- THE FRAMES, by the Node ID and the alias of their sender
+
+-- CID and RID carry no data; AMD and AMR the Node ID.
+abbrev pub bare : ℕ → Frame
+bare h = record { kind = 0; header = h; len = 0; bytes = 0 }
+
+abbrev pub withId : ℕ → ℕ → Frame
+withId h id = record { kind = 0; header = h; len = 6; bytes = packed (idBytes id) }
+
+-- CID 7, 6, 5, 4, with Node ID bits 47-36, 35-24, 23-12, 11-0: after so many that were sent
+abbrev pub sectionOf : (id sent : ℕ) → ℕ
+sectionOf id sent =
+    cond (ltb sent 1) (id / 2 ^ 36 % 2 ^ 12)
+    (cond (ltb sent 2) (id / 2 ^ 24 % 2 ^ 12)
+    (cond (ltb sent 3) (id / 2 ^ 12 % 2 ^ 12)
+    (id % 2 ^ 12)))
+
+abbrev pub numberOf : (sent : ℕ) → ℕ
+numberOf sent = cond (ltb sent 1) 7 (cond (ltb sent 2) 6 (cond (ltb sent 3) 5 4))
+
+abbrev pub cidField : (id sent : ℕ) → ℕ
+cidField id sent = numberOf sent * 2 ^ 12 + sectionOf id sent
+
+unfoldable pub cidFrame : (id alias sent : ℕ) → Frame
+cidFrame id a sent = bare (header 0 (cidField id sent) a)
+
+unfoldable pub ridFrame : (alias : ℕ) → Frame
+ridFrame a = bare (header 0 0x0700 a)
+
+unfoldable pub amdFrame : (id alias : ℕ) → Frame
+amdFrame id a = withId (header 0 0x0701 a) id
+
+unfoldable pub amrFrame : (id alias : ℕ) → Frame
+amrFrame id a = withId (header 0 0x0703 a) id
+
+-- The report is field 0x15B4, type 1, data 01 01 00 00 00 02 01.
+unfoldable pub reportFrame : (alias : ℕ) → Frame
+reportFrame a = record {
+  kind = 0;
+  header = header 1 0x15B4 a;
+  len = 7;
+  bytes = packed (0x01 ∷ 0x01 ∷ 0x00 ∷ 0x00 ∷ 0x00 ∷ 0x02 ∷ 0x01 ∷ []);
+}
+
+-- The due frame, document 01's term: the one that leaves next, if any.
+pub data Due : Type 0 where
+  nothing : Due
+  next : Frame → Due
+
+-- The host frame is type 1 with a message's field and data, or an AME with an enquiry's data.
+abbrev pub hostDue : Host → (alias : ℕ) → Due
+hostDue Empty a = nothing
+hostDue (Message field len bytes) a = next (record { kind = 0; header = header 1 field a; len = len; bytes = bytes })
+hostDue (Enquiry len bytes) a = next (record { kind = 0; header = header 0 0x0702 a; len = len; bytes = bytes })
+
+-- A DELIVERED FRAME
+
+abbrev pub isCid : Kind → Bool
+isCid (cid number section) = true
+isCid rid = false
+isCid amd = false
+isCid ame = false
+isCid amr = false
+isCid (errorReport number) = false
+isCid reserved = false
+isCid messageKind = false
+
+-- exactly the own Node ID
+unfoldable pub isOwn : (id : ℕ) → Frame → Bool
+isOwn id f = eqb (f .len) 6 && eqb (idIn (f .bytes)) id
+
+-- ANSWERS
+
+-- What an accepted event answers: a send the frame that left, every other nothing.
+pub data Value : Type 0 where
+  done : Value
+  left : Frame → Value
