@@ -7,7 +7,7 @@ use Rattle.state.specs.Answers.{answerAs}
 use Rattle.state.specs.declared.Answer.{Answer}
 use Rattle.state.specs.declared.Answer.the-variants.{Accepted, Sent, Refused}
 use Rattle.card_api.specs.Out.{codeOf}
-use Rattle.table.specs.Rules.{Command}
+use Rattle.segment_rules.specs.Rules.{Command}
 use Rattle.table.specs.Promise.{Does}
 
 abbrev pub lateCode : Bool → ℕ

@@ -3,7 +3,7 @@ use mathlib.Core.List.{List, [], _∷_}
 use Prim.Native.Nat.{ℕ}
 use Rattle.node.specs.Rules.{Due, nothing, next}
 use Rattle.headers.specs.declared.frame.Frame.{Frame}
-use Rattle.table.specs.Looks.{Seen}
+use Rattle.segment_rules.specs.Looks.{Seen}
 
 -- 1 where a frame is due, and that frame; all 0 where none is.
 abbrev pub dueMark : Due → ℕ

@@ -8,7 +8,7 @@ use headers::frame::Frame;
 use state::Answer;
 use table::layout::WORDS;
 ghost use mathlib.Core.Path.{_≡_};
-ghost use Rattle.table.specs.Rules.{powerOn, send, fail, deliver, tick, foreign, message, enquiry, release};
+ghost use Rattle.segment_rules.specs.Rules.{powerOn, send, fail, deliver, tick, foreign, message, enquiry, release};
 ghost use Rattle.table.specs.Words.{Fresh, lateOf};
 ghost use Rattle.state.specs.Answers.{answerAs};
 ghost use Rattle.card_api.specs.Out.{codeOf};

@@ -7,7 +7,7 @@ use table::look::Looked;
 use table::look::Seen;
 ghost use mathlib.Core.Path.{_≡_};
 ghost use Rattle.state.specs.Answers.{dueAs};
-ghost use Rattle.table.specs.Looks.{looks, looksIn};
+ghost use Rattle.segment_rules.specs.Looks.{looks, looksIn};
 ghost use Rattle.table.specs.Answers.{seenAs};
 ghost use Rattle.table.specs.Words.{view};
 ghost use Rattle.card_api.specs.Out.{Out};

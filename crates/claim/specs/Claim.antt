@@ -12,7 +12,7 @@ use Rattle.state.specs.Answers.{answerAs}
 use Rattle.state.specs.declared.Answer as A
 use Rattle.headers.specs.declared.frame.Frame.{Frame}
 use Rattle.node.specs.declared.Node.{Node}
-use Rattle.table.specs.Rules.{
+use Rattle.segment_rules.specs.Rules.{
   places,
   limit,
   Place,
@@ -45,22 +45,13 @@ use Rattle.table.specs.Rules.{
   noAges,
   isKept,
 }
+use Rattle.segment_rules.specs.Limits.{InLimit}
+use Rattle.segment_rules.specs.LimitLaws.{out-any, limit-by, limit-passes, limit-more, limit-test, test-limit, old-at, old-none}
 use Rattle.table.specs.Words.{Cell, frameOf, nodeAt, inbox, placeOf, agesOf, cellAt, lateOf, view, viewAges, Fresh}
 use Rattle.table.specs.WordLaws.{view-at}
-use Rattle.table.specs.AgeLaws.{
-  around-step,
-  out-any,
-  limit-by,
-  limit-passes,
-  limit-more,
-  limit-test,
-  test-limit,
-  old-at,
-  old-none,
-  old-around,
-}
+use Rattle.table.specs.ClockLaws.{around-step, old-around}
 use Rattle.claim.specs.Single.{both, single, one-meaning}
-use Rattle.table.specs.Promise.{around, allAround, InLimit, OldestFirst, bound, SoundWords, Done, Does}
+use Rattle.table.specs.Promise.{around, allAround, OldestFirst, bound, SoundWords, Done, Does}
 
 -- A LIST, carried out by the code: the commands cs, one after another on one table from all nodes Off, answered as and left
 -- the words t. `Fresh` is what `new` ensures, `Does` what each command ensures.

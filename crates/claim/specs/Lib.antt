@@ -1,5 +1,5 @@
 -- What the crate's contracts cite and what is proved of it, in reading order.
 pub mod Claim
 pub mod Single
-pub mod Seen
+pub mod Sight
 pub mod Bus

@@ -1,6 +1,6 @@
 -- Document 01's command, and its number and values, for each case of the code's enums.
 use Rattle.headers.specs.Rules.{idBytes, packed}
-use Rattle.table.specs.Rules.{Command, powerOn, send, fail, deliver, tick, foreign, message, enquiry, release}
+use Rattle.segment_rules.specs.Rules.{Command, powerOn, send, fail, deliver, tick, foreign, message, enquiry, release}
 use Rattle.script.specs.Rules.{Found, command, refusal, nothing}
 use Rattle.script.specs.declared.command.Command as C
 use Rattle.script.specs.declared.command.Read as R

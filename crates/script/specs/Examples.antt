@@ -26,7 +26,7 @@ use Rattle.node.specs.Rules.{
   refused,
   left,
 }
-use Rattle.table.specs.Rules.{roomBut, old, kept}
+use Rattle.segment_rules.specs.Rules.{roomBut, old, kept}
 use Rattle.script.specs.Rules.{
   number,
   form,

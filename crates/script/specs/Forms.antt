@@ -8,7 +8,7 @@ use native.Mathlib.Nat.{add-zero, add-suc, add-assoc, mul-assoc, pow-zero, pow-s
 use borrow.Author.Tests.{lt-leb, le-leb, ne-eqb, eqb-true}
 use lib.Dec.{leb, eqb}
 use lib.ListN.{length, getD}
-use Rattle.table.specs.Rules.{Command, tick, release}
+use Rattle.segment_rules.specs.Rules.{Command, tick, release}
 use Rattle.script.specs.Rules.{number, Form, operand, makes, unknown, form, Found, command, refusal, nothing, found, readOf}
 
 -- NUMBERS

@@ -11,7 +11,7 @@ use Rattle.text.specs.Sheet.{whole}
 use Rattle.node.specs.Rules as N
 use Rattle.node.specs.Rules.{Answer, accepted, refused, refuse, Value, done, wait, isOff, malformed, onLeave}
 use Rattle.node.specs.Refusals.{TwoDigits, two-refuse, two-digits}
-use Rattle.table.specs.Rules.{
+use Rattle.segment_rules.specs.Rules.{
   places,
   limit,
   isKept,

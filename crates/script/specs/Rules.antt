@@ -9,7 +9,7 @@ use Rattle.text.specs.Rules.{hex, decimal, space, feed}
 use Rattle.headers.specs.Rules.{idBytes, packed}
 use Rattle.node.specs.Rules.{Answer, accepted, refused, Value, done, left}
 use Rattle.headers.specs.declared.frame.Frame.{Frame}
-use Rattle.table.specs.Rules.{
+use Rattle.segment_rules.specs.Rules.{
   limit,
   Segment,
   start,

@@ -8,7 +8,7 @@ use native.Mathlib.Numerals.{add-one}
 use borrow.Author.Tests.{leb-true}
 use lib.Dec.{leb}
 use lib.ListN.{length, drop, length-drop}
-use Rattle.table.specs.Rules.{Command}
+use Rattle.segment_rules.specs.Rules.{Command}
 use Rattle.script.specs.Rules.{number, Form, operand, makes, unknown, form, Found, command, refusal, nothing, found, readOf, Script, next, onward, readUpTo, scriptOf}
 
 -- What is found at the head of s, in bounds; a refusal's number has two digits at most.

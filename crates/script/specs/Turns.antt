@@ -11,7 +11,7 @@ use Rattle.text.specs.Sheet.{carried, printed}
 use Rattle.node.specs.Rules.{Answer, Value, refused}
 use Rattle.state.specs.Answers.{answerAs}
 use Rattle.state.specs.declared.Answer as A
-use Rattle.table.specs.Rules.{limit, start, Command, answer, step, run, isKept}
+use Rattle.segment_rules.specs.Rules.{limit, start, Command, answer, step, run, isKept}
 use Rattle.table.specs.Words.{lateOf, Fresh}
 use Rattle.table.specs.Promise.{Does}
 use Rattle.claim.specs.Claim.{Carried, begun, then, run-snoc, follows, told}

@@ -2,7 +2,7 @@
 use Rattle.node.specs.Rules.{Answer, accepted, refused}
 use Rattle.state.specs.Answers.{dueAs, refusalAs}
 use Rattle.headers.specs.declared.frame.Frame.{Frame}
-use Rattle.table.specs.Looks.{Seen}
+use Rattle.segment_rules.specs.Looks.{Seen}
 use Rattle.table.specs.declared.look.Seen as S
 use Rattle.table.specs.declared.look.Looked as L
 use Rattle.table.specs.declared.look.Found as F

@@ -3,13 +3,11 @@ use mathlib.Core.Path.{_≡_}
 use mathlib.Core.Bool.{false, _||_}
 use mathlib.Core.List.{List, [], _∷_, map}
 use Prim.Native.Nat.{ℕ, _-_, _%_, _<_, _≤_}
-use Rattle.node.specs.Rules.{refused, timedFor}
+use Rattle.node.specs.Rules.{refused}
 use Rattle.state.specs.Answers.{answerAs}
 use Rattle.state.specs.declared.Answer as A
-use Rattle.node.specs.declared.Node.{Node}
-use Rattle.state.specs.declared.Timed.{Timed}
-use Rattle.state.specs.declared.Timed.the-variants.{Untimed, Reply, Amr}
-use Rattle.table.specs.Rules.{places, limit, Command, answer, step, Ages, ages, ageStep, ticks, old}
+use Rattle.segment_rules.specs.Rules.{places, limit, Command, answer, step, Ages, ages, ageStep, ticks, old}
+use Rattle.segment_rules.specs.Limits.{InLimit}
 use Rattle.pack.specs.Words.{round}
 use Rattle.table.specs.Words.{Item, nodeAt, inbox, agesOf, cellAt, lateOf, slackOf, view, viewAges, Held}
 
@@ -19,21 +17,6 @@ around g = ages (map (λ x. x % round) (g .inbox)) (λ a. g .waiting a % round)
 
 abbrev pub allAround : (ℕ → Ages) → ℕ → Ages
 allAround G k = around (G k)
-
--- no age above a limit, in an inbox and of what waits
-abbrev pub AgesTo : ℕ → List ℕ → Type 0
-AgesTo i [] = Unit {0}
-AgesTo i (g ∷ gs) = (g ≤ i) × AgesTo i gs
-
-abbrev pub OutTo : ℕ → Timed → ℕ → Type 0
-OutTo o Untimed r = Unit {0}
-OutTo o Reply r = r ≤ o
-OutTo o Amr r = r ≤ o
-
--- No age at a node exceeds i for inbox frames, o for what waits.
-pub record InLimit (i o : ℕ) (n : Node) (g : Ages) : Type 0 where
-  pub inbox : AgesTo i (g .inbox)
-  pub waiting : (a : ℕ) → OutTo o (timedFor n a) (g .waiting a)
 
 -- No frame in an inbox is older than the one before it.
 abbrev pub Under : ℕ → List Item → Type 0

@@ -9,7 +9,7 @@ use lib.Dec.{ltb, eqb}
 use borrow.Author.Tests.{ltb-true, ltb-false, lt-ltb, eqb-true, eqb-false}
 use lib.ListN.{length, getD}
 use Rattle.node.specs.Rules.{timedFor}
-use Rattle.table.specs.Rules.{places, inboxRoom, blank, none}
+use Rattle.segment_rules.specs.Rules.{places, inboxRoom, blank, none}
 use Rattle.pack.specs.Laws.{node-same}
 use Rattle.pack.specs.Words.{round, since, timedAge, nodeFrom}
 use Rattle.table.specs.Words.{Cell, cell, placeOf, agesOf, block, words, countAt, firstAt, stampAt, slot, lateAt, clockAt, slackAt, nodeAt, itemFrom, itemAt, items, inbox, ageOf, cellAt, slackOf, view, viewAges, Held, At}

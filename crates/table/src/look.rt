@@ -9,8 +9,8 @@ use state::Phase;
 use state::Refusal;
 ghost use mathlib.Core.Path.{_≡_};
 ghost use Prim.Native.Nat.{_<_};
-ghost use Rattle.table.specs.Rules.{places};
-ghost use Rattle.table.specs.Looks.{stateNumber, idSeen, aliasSeen, seen, looks, looksIn};
+ghost use Rattle.segment_rules.specs.Rules.{places};
+ghost use Rattle.segment_rules.specs.Looks.{stateNumber, idSeen, aliasSeen, seen, looks, looksIn};
 ghost use Rattle.table.specs.Answers.{seenAs, lookAs, foundAs};
 ghost use Rattle.table.specs.Words.{placeOf, cellAt, view};
 

@@ -2,7 +2,7 @@ use Prim.Native.Nat.{ℕ, _≤_, _-_}
 use native.Mathlib.Omega.{arith}
 use mathlib.Core.Path.{_≡_, refl, subst}
 use Rattle.table.specs.Parts.{Each, tickedCell}
-use Rattle.table.specs.Rules.{places}
+use Rattle.segment_rules.specs.Rules.{places}
 use Rattle.table.specs.Words.{Held}
 use Rattle.table.proofs.Rounds.{each-none, each-more}
 use Rattle.table.proofs.change.tick_nodes.Statement.{statement}

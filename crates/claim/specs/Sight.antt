@@ -44,17 +44,17 @@ use Rattle.node.specs.Stand.{
 }
 use Rattle.headers.specs.declared.frame.Frame.{Frame}
 use Rattle.claim.specs.Bus.{Talk, Local, Emits, Gets, Passes, Kept}
-use Rattle.table.specs.Promise.{AgesTo, OutTo}
-use Rattle.table.specs.Rules.{agesOn, passAge}
+use Rattle.segment_rules.specs.Rules.{agesOn, passAge}
+use Rattle.segment_rules.specs.Limits.{AgesTo, OutTo}
 
-pub record Seen : Type 0 where
+pub record Sight : Type 0 where
   pub stand : Stand
   pub age : ℕ
   pub box : List Frame
   pub ages : List ℕ
 
-abbrev pub seen : Stand → ℕ → List Frame → List ℕ → Seen
-seen s r xs gs = record { stand = s; age = r; box = xs; ages = gs }
+abbrev pub sight : Stand → ℕ → List Frame → List ℕ → Sight
+sight s r xs gs = record { stand = s; age = r; box = xs; ages = gs }
 
 abbrev pub agesBetween : Stand → Stand → ℕ → ℕ
 agesBetween s t r = agesOn (timedBy s) (timedBy t) r
@@ -102,7 +102,7 @@ module _ (i o a : ℕ) where
   KnowsOf owes r xs gs w = w ≤ i + r
   KnowsOf departs r xs gs w = w ≤ i + o + r
 
-  abbrev pub talk : Talk Seen Frame
+  abbrev pub talk : Talk Sight Frame
   talk = record {
     Uses = λ p. Uses (p .stand);
     Tests = λ p w. Tests (p .stand) w;
@@ -112,12 +112,12 @@ module _ (i o a : ℕ) where
     Asks = λ f. Asks a f;
   }
 
-  pub record InTime (p : Seen) : Type 0 where
+  pub record InTime (p : Sight) : Type 0 where
     pub box : AgesTo i (p .ages)
     pub out : OutTo o (timedBy (p .stand)) (p .age)
 
-  pub kept : (wait : ℕ) (p : Seen) → InTime p → Kept Seen Frame talk i o wait p
-  kept wait p t = record {
+  pub keeps : (wait : ℕ) (p : Sight) → InTime p → Kept Sight Frame talk i o wait p
+  keeps wait p t = record {
     hears = λ g h. heard-kept (Tells a) i (p .box) (p .ages) g (t .box) h;
     knows = λ w u k. known (p .stand) (p .age) (t .out) w k;
   }
@@ -131,14 +131,14 @@ module _ (i o a : ℕ) where
 
   -- A PLACE ON ITS OWN
 
-  abbrev pub Alone : Seen → Seen → Type 0
-  Alone p q = Local Seen Frame talk p q
+  abbrev pub Alone : Sight → Sight → Type 0
+  Alone p q = Local Sight Frame talk p q
 
   -- the inbox keeps what is under the alias
   pub stayed : (s : Stand) (r : ℕ) (xs ys : List Frame) (gs hs : List ℕ)
       → ((g : ℕ) → Heard (Tells a) xs gs g → Heard (Tells a) ys hs g)
       → ((g : ℕ) → Heard (Asks a) xs gs g → Heard (Asks a) ys hs g)
-      → Alone (seen s r xs gs) (seen s (agesBetween s s r) ys hs)
+      → Alone (sight s r xs gs) (sight s (agesBetween s s r) ys hs)
   stayed s r xs ys gs hs tells asked = record {
     uses = λ u. u;
     knows = λ w u k. known s w u k;
@@ -153,8 +153,8 @@ module _ (i o a : ℕ) where
       known owes w u k = omega arith
       known departs w u k = omega arith
 
-  pub turned : {s t : Stand} (r : ℕ) (xs ys : List Frame) (gs hs : List ℕ) → Turns s t → InTime (seen s r xs gs)
-      → Alone (seen s r xs gs) (seen t (agesBetween s t r) ys hs)
+  pub turned : {s t : Stand} (r : ℕ) (xs ys : List Frame) (gs hs : List ℕ) → Turns s t → InTime (sight s r xs gs)
+      → Alone (sight s r xs gs) (sight t (agesBetween s t r) ys hs)
   turned {s} {t} r xs ys gs hs m y = record {
     uses = λ u. turns-uses m u;
     knows = λ w u k. known m (y .out) w u k;
@@ -175,7 +175,7 @@ module _ (i o a : ℕ) where
       known ower-leaves l w u k = omega arith
 
   -- it starts anew, idle
-  pub gone : (p : Seen) (r : ℕ) (ys : List Frame) (hs : List ℕ) → Alone p (seen idle r ys hs)
+  pub gone : (p : Sight) (r : ℕ) (ys : List Frame) (hs : List ℕ) → Alone p (sight idle r ys hs)
   gone p r ys hs = record {
     uses = λ u. absurd u;
     knows = λ w u k. absurd u;
@@ -186,7 +186,7 @@ module _ (i o a : ℕ) where
   -- A FRAME COMES
 
   pub got : (s : Stand) (r : ℕ) (xs : List Frame) (gs : List ℕ) (f : Frame) → length xs ≡ length gs
-      → Gets Seen Frame talk f (seen s r xs gs) (seen s r (xs ++ (f ∷ [])) (gs ++ (0 ∷ [])))
+      → Gets Sight Frame talk f (sight s r xs gs) (sight s r (xs ++ (f ∷ [])) (gs ++ (0 ∷ [])))
   got s r xs gs f e = record {
     uses = λ u. u;
     knows = λ w k. known s w k;
@@ -210,7 +210,7 @@ module _ (i o a : ℕ) where
       asked owes t u = omega arith
       asked departs t u = omega arith
 
-  pub shut : (r : ℕ) (xs : List Frame) (gs : List ℕ) (f : Frame) → Gets Seen Frame talk f (seen idle r xs gs) (seen idle r xs gs)
+  pub shut : (r : ℕ) (xs : List Frame) (gs : List ℕ) (f : Frame) → Gets Sight Frame talk f (sight idle r xs gs) (sight idle r xs gs)
   shut r xs gs f = record {
     uses = λ u. u;
     knows = λ w k. k;
@@ -223,7 +223,7 @@ module _ (i o a : ℕ) where
   -- TIME PASSES
 
   pub grown : (d : ℕ) {s t : Stand} (r : ℕ) (xs : List Frame) (gs : List ℕ) → Grows d s t
-      → Passes Seen Frame talk d (seen s r xs gs) (seen t (passAge d (timedBy t) (agesBetween s t r)) xs (map (λ x. x + d) gs))
+      → Passes Sight Frame talk d (sight s r xs gs) (sight t (passAge d (timedBy t) (agesBetween s t r)) xs (map (λ x. x + d) gs))
   grown d {s} {t} r xs gs m = record {
     uses = λ u. grows-uses d m u;
     knows = λ w v le k. known m w v le k;
@@ -246,9 +246,9 @@ module _ (i o a : ℕ) where
 
   -- A FRAME LEAVES
 
-  pub sent : (wait : ℕ) {s t : Stand} (f : Frame) (r : ℕ) (xs : List Frame) (gs : List ℕ) → Sends wait a f s t → InTime (seen s r xs gs)
-      → Emits Seen Frame talk i o wait f (seen s r xs gs) (seen t (agesBetween s t r) xs gs)
-  sent wait {s} {t} f r xs gs m y = record {
+  pub emits : (wait : ℕ) {s t : Stand} (f : Frame) (r : ℕ) (xs : List Frame) (gs : List ℕ) → Sends wait a f s t → InTime (sight s r xs gs)
+      → Emits Sight Frame talk i o wait f (sight s r xs gs) (sight t (agesBetween s t r) xs gs)
+  emits wait {s} {t} f r xs gs m y = record {
     uses = λ u. sends-uses wait a f m u;
     knows = λ w u u′ k. known m (y .out) w u u′ k;
     tests = λ w h. sends-tests wait a f m w h;

@@ -8,7 +8,7 @@ use Rattle.node.specs.Rules.{Answer, accepted, refused, refuse, isOff, uses, wa
 use Rattle.headers.specs.declared.frame.Frame.{Frame}
 use Rattle.state.specs.declared.Phase.{Phase}
 use Rattle.state.specs.declared.Phase.the-variants.{Off, Testing, Reserved, Permitted, Leaving, Resting, Silent}
-use Rattle.table.specs.Rules.{places, Place, Segment}
+use Rattle.segment_rules.specs.Rules.{places, Place, Segment}
 
 -- The states by numbers, in document 01's order.
 abbrev pub stateNumber : Phase → ℕ

@@ -1,0 +1,400 @@
+-- Worked examples of the segment's rules: sentences of document 01, each at one segment, all in one statement.
+use mathlib.Core.Path.{_≡_, refl}
+use mathlib.Core.Bool.{Bool, true, false, cond}
+use mathlib.Core.List.{List, [], _∷_}
+use Prim.Native.Nat.{ℕ}
+use lib.Dec.{eqb}
+use lib.ListN.{replicate}
+use Rattle.headers.specs.Rules.{kindIn, mixed}
+use Rattle.node.specs.Rules.{
+  Answer,
+  accepted,
+  refused,
+  Value,
+  done,
+  left,
+  Due,
+  nothing,
+  next,
+  bare,
+  withId,
+  noneWaiting,
+  withReply,
+  withHost,
+  offNode,
+  fresh,
+  restart,
+  moved,
+  counted,
+  waits,
+  cidFrame,
+  ridFrame,
+  amdFrame,
+  amrFrame,
+  firstWaiting,
+  dueOf,
+  tickOf,
+  sentPermitted,
+  sentOf,
+  failedOf,
+  sameAlias,
+  addressed,
+  otherAlias,
+  received,
+  malformed,
+  used,
+  trimmed,
+  onPowerOn,
+  onLeave,
+  onFail,
+  orders,
+  onMessage,
+  onEnquiry,
+  onRelease,
+}
+use Rattle.headers.specs.declared.frame.Frame.{Frame}
+use Rattle.node.specs.declared.Node.{Node}
+use Rattle.state.specs.declared.Phase.{Phase}
+use Rattle.state.specs.declared.Phase.the-variants.{Testing, Reserved, Permitted, Leaving, Resting, Silent}
+use Rattle.state.specs.declared.Reason.the-variants.{Collision, Release}
+use Rattle.state.specs.declared.Host.the-variants.{Message, Enquiry}
+use Rattle.segment_rules.specs.Rules.{
+  limit,
+  place,
+  Segment,
+  segment,
+  blank,
+  start,
+  Command,
+  send,
+  tick,
+  foreign,
+  powerOn,
+  fail,
+  deliver,
+  message,
+  enquiry,
+  release,
+  roomBut,
+  answer,
+  step,
+  run,
+  answers,
+  Ages,
+  ages,
+  none,
+  ticks,
+  old,
+  aged,
+  kept,
+  noAges,
+  isKept,
+}
+use Rattle.segment_rules.specs.Looks.{Seen, seen, looks, frameIn, looksIn}
+
+pub data Example : Type 0 where
+  -- on this segment, this command is answered so
+  says : Segment → Command → Answer Value → Example
+  -- after this command, this node and inbox stand at this index
+  makes : Segment → Command → (index : ℕ) → Node → (inbox : List Frame) → Example
+  -- these commands, from all nodes Off, are answered so, and then this node and inbox stand at this index
+  lists : List Command → List (Answer Value) → (index : ℕ) → Node → (inbox : List Frame) → Example
+  -- after these commands, with these ages before them, at this index: the ages in the inbox, and of what waits for alias 263
+  ageing : Segment → (ℕ → Ages) → List Command → (index : ℕ) → (inbox : List ℕ) → (waiting : ℕ) → Example
+  -- these commands, with these ages before them, make a list that is kept, or late
+  judges : Segment → (ℕ → Ages) → List Command → Bool → Example
+  -- these commands, from all nodes Off, make a list that is kept, or late
+  keeps : List Command → Bool → Example
+  -- a look at the node at this index is answered so, and one at this frame of its inbox
+  shows : Segment → (index : ℕ) → Answer Seen → Example
+  finds : Segment → (index place : ℕ) → Answer Frame → Example
+
+abbrev pub Holds : Example → Type 0
+Holds (says S c a) = answer S c ≡ a
+Holds (makes S c k n xs) = step S c .at k ≡ place n xs
+Holds (lists cs ys k n xs) = (answers start cs ≡ ys) × (run start cs .at k ≡ place n xs)
+Holds (ageing S G cs k xs w) = (aged ticks S G cs k .inbox ≡ xs) × (aged ticks S G cs k .waiting 0x263 ≡ w)
+Holds (judges S G cs b) = kept ticks limit limit S G cs ≡ b
+Holds (keeps cs b) = isKept limit limit cs ≡ b
+Holds (shows S k a) = looks S k ≡ a
+Holds (finds S k j a) = looksIn S k j ≡ a
+
+abbrev pub All : List Example → Type 0
+All [] = Unit
+All (e ∷ es) = Holds e × All es
+
+abbrev pub AllOf : List (List Example) → Type 0
+AllOf [] = Unit
+AllOf (es ∷ rest) = All es × AllOf rest
+
+-- WHAT THEY ARE ABOUT
+
+-- the node with Node ID 050101010101 and its first alias, 263, in a state, nothing waiting
+abbrev pub inState : Phase → Node
+inState p = moved (fresh 0x050101010101 (record { 0 = 0x263 })) p
+
+abbrev pub testing : Node
+testing = inState (Testing 0 0)
+
+abbrev pub permitted : Node
+permitted = inState Permitted
+
+abbrev pub leaving : Node
+leaving = inState (Leaving Collision)
+
+-- with a reply RID waiting; with a message that the host has ordered
+abbrev pub replying : Node
+replying = waits permitted (withReply noneWaiting true)
+
+abbrev pub hostWaiting : Node
+hostWaiting = waits permitted (withHost noneWaiting (Message 0x5B4 2 0xABCD000000000000))
+
+-- its first frame, which is also a CID with its alias; a message with its alias
+abbrev pub ownCid : Frame
+ownCid = bare 0x17050263
+
+abbrev pub ownMessage : Frame
+ownMessage = bare 0x195B4263
+
+-- frames that have no effect on it
+abbrev pub frame1 : Frame
+frame1 = bare 0x10700111
+
+abbrev pub frame2 : Frame
+frame2 = bare 0x10700222
+
+abbrev pub frame3 : Frame
+frame3 = bare 0x10700333
+
+abbrev pub many : ℕ → List Frame
+many n = replicate n frame1
+
+-- a frame of one data byte, of eight that came
+abbrev pub oneByte : ℕ → Frame
+oneByte bytes = record { kind = 0; header = 0x195B4111; len = 1; bytes = bytes }
+
+-- all nodes Off but one, but two
+abbrev pub alone : (index : ℕ) → Node → (inbox : List Frame) → Segment
+alone i n xs = segment (λ k. cond (eqb k i) (place n xs) blank)
+
+abbrev pub two : (index : ℕ) → Node → (inbox : List Frame) → (index : ℕ) → Node → (inbox : List Frame) → Segment
+two i n xs j m ys = segment (λ k. cond (eqb k i) (place n xs) (cond (eqb k j) (place m ys) blank))
+
+-- ages at an index, of inbox frames and of what waits for any alias; elsewhere none
+abbrev pub agesAt : (index : ℕ) → List ℕ → ℕ → ℕ → Ages
+agesAt i xs w k = cond (eqb k i) (ages xs (λ a. w)) none
+
+-- what is seen of that node
+abbrev pub sees : (state alias : ℕ) → Due → (count : ℕ) → Answer Seen
+sees s a d n = accepted (record { state = s; id = 0x050101010101; alias = a; due = d; count = n })
+
+-- THE ANSWERS, each refusal in its order
+
+abbrev pub ofAnswers : List Example
+ofAnswers =
+    -- index above 23 is refusal 1, and 23 is not
+    says start (deliver 24) (refused 1)
+    ∷ says start (send 24) (refused 1)
+    -- deliver: Off is 2, though the inbox is empty
+    ∷ says start (deliver 23) (refused 2)
+    -- empty inbox is 6
+    ∷ says (alone 3 testing []) (deliver 3) (refused 6)
+    ∷ says (alone 3 testing (frame1 ∷ [])) (deliver 3) (accepted done)
+    -- send: Off is 2, though another inbox is full
+    ∷ says (alone 3 testing (many 32)) (send 0) (refused 2)
+    -- no due frame is 4, though another inbox is full
+    ∷ says (two 0 (inState Resting) [] 3 testing (many 32)) (send 0) (refused 4)
+    -- some other node's inbox full is 5, the first or the last; 31 frames are not full
+    ∷ says (two 3 testing [] 0 testing (many 32)) (send 3) (refused 5)
+    ∷ says (two 3 testing [] 23 testing (many 32)) (send 3) (refused 5)
+    ∷ says (two 3 testing [] 23 testing (many 31)) (send 3) (accepted (left ownCid))
+    -- the own inbox full is no refusal
+    ∷ says (alone 3 testing (many 32)) (send 3) (accepted (left ownCid))
+    -- after CID 4 has left, none until the 201st tick since; then the reserving RID
+    ∷ says (alone 3 (inState (Testing 4 200)) []) (send 3) (refused 4)
+    ∷ says (alone 3 (inState (Testing 4 201)) []) (send 3) (accepted (left (bare 0x10700263)))
+    -- failed send: no 5
+    ∷ says (two 3 testing [] 0 testing (many 32)) (fail 3) (accepted done)
+    ∷ says (alone 3 (inState (Testing 4 200)) []) (fail 3) (refused 4)
+    -- tick: never refused
+    ∷ says (two 0 testing (many 32) 23 testing (many 32)) tick (accepted done)
+    -- foreign frame: malformed is 9, though an inbox is full
+    ∷ says (alone 3 testing (many 32)) (foreign (record { kind = 3; header = 0; len = 0; bytes = 0 })) (refused 9)
+    -- then 5 if any inbox is full
+    ∷ says (alone 0 testing (many 32)) (foreign frame2) (refused 5)
+    ∷ says (alone 23 testing (many 32)) (foreign frame2) (refused 5)
+    ∷ says (alone 23 testing (many 31)) (foreign frame2) (accepted done)
+    -- power-on: 1, then 3
+    ∷ says start (powerOn 24 0) (refused 1)
+    ∷ says start (powerOn 23 0) (refused 3)
+    -- message: 1; 2; a field above 15 bits or a length above 8 is 9; not Permitted is 7; host frame waiting is 8
+    ∷ says start (message 24 0x8000 9 0) (refused 1)
+    ∷ says start (message 3 0x8000 9 0) (refused 2)
+    ∷ says (alone 3 testing []) (message 3 0x8000 8 0) (refused 9)
+    ∷ says (alone 3 testing []) (message 3 0x7FFF 9 0) (refused 9)
+    ∷ says (alone 3 testing []) (message 3 0x7FFF 8 0) (refused 7)
+    ∷ says (alone 3 hostWaiting []) (message 3 0x7FFF 8 0) (refused 8)
+    -- enquiry: 9 where the length is neither 0 nor 6
+    ∷ says (alone 3 permitted []) (enquiry 3 5 0) (refused 9)
+    ∷ says (alone 3 hostWaiting []) (enquiry 3 6 0) (refused 8)
+    -- release: 2, 7
+    ∷ says start (release 3) (refused 2)
+    ∷ says (alone 3 testing []) (release 3) (refused 7)
+    ∷ []
+
+-- WHAT AN ACCEPTED COMMAND DOES, and a refused one
+
+abbrev pub ofPlaces : List Example
+ofPlaces =
+    -- first in first out: a delivery takes the oldest frame, and the others stay in order
+    makes (alone 3 permitted (ownMessage ∷ frame1 ∷ frame2 ∷ [])) (deliver 3) 3 leaving (frame1 ∷ frame2 ∷ [])
+    -- and it concerns no other place
+    ∷ makes (two 3 permitted (ownMessage ∷ []) 4 permitted (ownMessage ∷ [])) (deliver 3) 4 permitted (ownMessage ∷ [])
+    -- a foreign frame joins the inbox of every node not Off, behind the others
+    ∷ makes (two 0 testing [] 23 testing (frame1 ∷ [])) (foreign frame2) 0 testing (frame2 ∷ [])
+    ∷ makes (two 0 testing [] 23 testing (frame1 ∷ [])) (foreign frame2) 23 testing (frame1 ∷ frame2 ∷ [])
+    ∷ makes (two 0 testing [] 23 testing (frame1 ∷ [])) (foreign frame2) 3 offNode []
+    -- a Resting node is not Off
+    ∷ makes (alone 3 (inState Resting) []) (foreign frame2) 3 (inState Resting) (frame2 ∷ [])
+    -- unused data bytes are ignored
+    ∷ makes (alone 3 testing []) (foreign (oneByte 0xAB123456789ABCDE)) 3 testing (oneByte 0xAB00000000000000 ∷ [])
+    -- a frame that leaves joins the inbox of every other node not Off, and not the sender's
+    ∷ makes (two 3 testing (frame1 ∷ []) 4 permitted (frame1 ∷ [])) (send 3) 3 (inState (Testing 1 0)) (frame1 ∷ [])
+    ∷ makes (two 3 testing (frame1 ∷ []) 4 permitted (frame1 ∷ [])) (send 3) 4 permitted (frame1 ∷ ownCid ∷ [])
+    ∷ makes (two 3 testing (frame1 ∷ []) 4 permitted (frame1 ∷ [])) (send 3) 5 offNode []
+    -- a tick goes to each node, and to no inbox
+    ∷ makes (two 0 (inState (Testing 4 0)) (frame1 ∷ []) 23 (inState (Testing 4 7)) []) tick 0 (inState (Testing 4 1)) (frame1 ∷ [])
+    ∷ makes (two 0 (inState (Testing 4 0)) (frame1 ∷ []) 23 (inState (Testing 4 7)) []) tick 23 (inState (Testing 4 8)) []
+    -- the 201st tick is the last that counts
+    ∷ makes (alone 3 (inState (Testing 4 200)) []) tick 3 (inState (Testing 4 201)) []
+    ∷ makes (alone 3 (inState (Testing 4 201)) []) tick 3 (inState (Testing 4 201)) []
+    -- power-on, in any state: Testing with its first alias, nothing waiting and an empty inbox
+    ∷ makes (alone 3 replying (frame1 ∷ [])) (powerOn 3 0x050101010101) 3 testing []
+    -- a failed send restarts a Testing node; its inbox stays
+    ∷ makes (alone 3 testing (frame1 ∷ [])) (fail 3) 3 (restart testing) (frame1 ∷ [])
+    -- the host frame waits
+    ∷ makes (alone 3 permitted (frame1 ∷ [])) (message 3 0x5B4 2 0xABCD000000000000) 3 hostWaiting (frame1 ∷ [])
+    ∷ makes (alone 3 permitted (frame1 ∷ [])) (enquiry 3 6 0x0501010101020000) 3 (waits permitted (withHost noneWaiting (Enquiry 6 0x0501010101020000))) (frame1 ∷ [])
+    -- release: Permitted becomes Leaving, waiting frames dropped; its inbox stays
+    ∷ makes (alone 3 replying (frame1 ∷ [])) (release 3) 3 (inState (Leaving Release)) (frame1 ∷ [])
+    -- a refusal changes nothing: by 3; by 5, though the place has room
+    ∷ makes (alone 3 replying (frame1 ∷ [])) (powerOn 3 0) 3 replying (frame1 ∷ [])
+    ∷ makes (two 3 testing [] 4 testing (many 32)) (foreign frame2) 3 testing []
+    -- there are 24 places: nothing comes to another
+    ∷ makes (alone 24 testing []) (foreign frame2) 24 testing []
+    -- one after another from all nodes Off: document 01's script, and the place then
+    ∷ lists (powerOn 0 0x050101010101 ∷ deliver 0 ∷ send 0 ∷ send 24 ∷ []) (accepted done ∷ refused 6 ∷ accepted (left ownCid) ∷ refused 1 ∷ []) 0 (inState (Testing 1 0)) []
+    -- equal Node IDs at two indexes are accepted; the second meets the first's CID, and starts again
+    ∷ lists (powerOn 0 0x050101010101 ∷ powerOn 1 0x050101010101 ∷ send 0 ∷ deliver 1 ∷ []) (accepted done ∷ accepted done ∷ accepted (left ownCid) ∷ accepted done ∷ []) 1 (restart testing) []
+    ∷ []
+
+-- AGES
+
+abbrev pub ofAges : List Example
+ofAges =
+    -- a delivery ends the age of its frame, and those behind it keep theirs
+    ageing (alone 3 permitted (frame1 ∷ frame2 ∷ frame3 ∷ [])) (agesAt 3 (9 ∷ 5 ∷ 2 ∷ []) 0) (deliver 3 ∷ []) 3 (5 ∷ 2 ∷ []) 0
+    -- a frame that joins an inbox begins at 0: a foreign one, and one that leaves
+    ∷ ageing (alone 3 permitted (frame1 ∷ [])) (agesAt 3 (9 ∷ []) 0) (foreign frame2 ∷ []) 3 (9 ∷ 0 ∷ []) 0
+    ∷ ageing (two 3 permitted (frame1 ∷ []) 4 testing []) (agesAt 3 (9 ∷ []) 0) (send 4 ∷ []) 3 (9 ∷ 0 ∷ []) 0
+    -- what waits goes on with its own
+    ∷ ageing (alone 3 replying []) (agesAt 3 [] 7) (foreign frame2 ∷ []) 3 (0 ∷ []) 7
+    -- at the sender none begins, and at a node that is Off none
+    ∷ ageing (two 3 permitted (frame1 ∷ []) 4 testing []) (agesAt 4 (9 ∷ []) 0) (send 4 ∷ []) 4 (9 ∷ []) 0
+    ∷ ageing (alone 3 permitted []) noAges (foreign frame2 ∷ []) 4 [] 0
+    -- a tick: each inbox frame, reply RID and AMR is one tick older
+    ∷ ageing (alone 0 replying (frame1 ∷ frame2 ∷ [])) (agesAt 0 (9 ∷ 5 ∷ []) 7) (tick ∷ []) 0 (10 ∷ 6 ∷ []) 8
+    ∷ ageing (alone 23 leaving (frame1 ∷ [])) (agesAt 23 (9 ∷ []) 7) (tick ∷ []) 23 (10 ∷ []) 8
+    -- where neither waits, nothing grows older; the reserving RID has no age
+    ∷ ageing (alone 3 permitted []) noAges (tick ∷ []) 3 [] 0
+    ∷ ageing (alone 3 (inState (Testing 4 201)) []) noAges (tick ∷ []) 3 [] 0
+    -- a reply RID begins at 0, and a later CID does not renew it
+    ∷ ageing (alone 3 permitted (ownCid ∷ [])) (agesAt 3 (9 ∷ []) 5) (deliver 3 ∷ []) 3 [] 0
+    ∷ ageing (alone 3 permitted (ownCid ∷ [])) (agesAt 3 (9 ∷ []) 0) (deliver 3 ∷ tick ∷ tick ∷ []) 3 [] 2
+    ∷ ageing (alone 3 replying (ownCid ∷ [])) (agesAt 3 (9 ∷ []) 7) (deliver 3 ∷ []) 3 [] 7
+    -- it ends when the reply leaves
+    ∷ ageing (alone 3 replying []) (agesAt 3 [] 7) (send 3 ∷ []) 3 [] 0
+    -- an AMR begins at 0 when the reply is dropped, by a frame and by a release
+    ∷ ageing (alone 3 replying (ownMessage ∷ [])) (agesAt 3 (9 ∷ []) 7) (deliver 3 ∷ []) 3 [] 0
+    ∷ ageing (alone 3 replying []) (agesAt 3 [] 7) (release 3 ∷ []) 3 [] 0
+    -- a CID in Leaving does not renew it; it ends when the AMR leaves
+    ∷ ageing (alone 3 leaving (ownCid ∷ [])) (agesAt 3 (9 ∷ []) 7) (deliver 3 ∷ []) 3 [] 7
+    ∷ ageing (alone 3 leaving []) (agesAt 3 [] 7) (send 3 ∷ []) 3 [] 0
+    -- power-on ends all
+    ∷ ageing (alone 3 replying (frame1 ∷ [])) (agesAt 3 (9 ∷ []) 7) (powerOn 3 0x050101010101 ∷ []) 3 [] 0
+    -- a command at another index changes none
+    ∷ ageing (two 3 replying (frame1 ∷ []) 4 testing []) (agesAt 3 (9 ∷ []) 7) (powerOn 4 0x050101010101 ∷ []) 3 (9 ∷ []) 7
+    -- a refused command changes none
+    ∷ ageing (alone 3 replying (frame1 ∷ [])) (agesAt 3 (9 ∷ []) 7) (powerOn 3 0 ∷ []) 3 (9 ∷ []) 7
+    ∷ []
+
+-- KEPT AND LATE
+
+abbrev pub ofKept : List Example
+ofKept =
+    -- a list is kept when no age in it reaches 41: of an inbox frame, at the first place and at the last
+    judges (alone 0 permitted (frame1 ∷ [])) (agesAt 0 (39 ∷ []) 0) (tick ∷ []) true
+    ∷ judges (alone 0 permitted (frame1 ∷ [])) (agesAt 0 (40 ∷ []) 0) (tick ∷ []) false
+    ∷ judges (alone 23 permitted (frame1 ∷ [])) (agesAt 23 (39 ∷ []) 0) (tick ∷ []) true
+    ∷ judges (alone 23 permitted (frame1 ∷ [])) (agesAt 23 (40 ∷ []) 0) (tick ∷ []) false
+    -- of a frame behind another
+    ∷ judges (alone 3 permitted (frame1 ∷ frame2 ∷ [])) (agesAt 3 (0 ∷ 40 ∷ []) 0) (tick ∷ []) false
+    -- of a reply RID, of an AMR
+    ∷ judges (alone 3 replying []) (agesAt 3 [] 39) (tick ∷ []) true
+    ∷ judges (alone 3 replying []) (agesAt 3 [] 40) (tick ∷ []) false
+    ∷ judges (alone 3 leaving []) (agesAt 3 [] 39) (tick ∷ []) true
+    ∷ judges (alone 3 leaving []) (agesAt 3 [] 40) (tick ∷ []) false
+    -- else late for good
+    ∷ judges (alone 3 permitted (frame1 ∷ [])) (agesAt 3 (40 ∷ []) 0) (tick ∷ deliver 3 ∷ []) false
+    ∷ judges (alone 3 permitted (frame1 ∷ [])) (agesAt 3 (40 ∷ []) 0) (deliver 3 ∷ tick ∷ []) true
+    -- a list of no command is kept
+    ∷ keeps [] true
+    -- from power-on: a foreign frame that stands for 40 ticks, for 41
+    ∷ keeps (powerOn 0 0x050101010101 ∷ foreign frame1 ∷ replicate 40 tick) true
+    ∷ keeps (powerOn 0 0x050101010101 ∷ foreign frame1 ∷ replicate 41 tick) false
+    ∷ []
+
+-- LOOKING
+
+abbrev pub ofLooks : List Example
+ofLooks =
+    -- look: index above 23 is 1; Off: all of it 0
+    shows start 24 (refused 1)
+    ∷ shows start 23 (accepted (record { state = 0; id = 0; alias = 0; due = nothing; count = 0 }))
+    -- the alias in Testing and where it is used, the due frame, how many frames the inbox has
+    ∷ shows (alone 3 testing (frame1 ∷ frame2 ∷ [])) 3 (sees 1 0x263 (next ownCid) 2)
+    ∷ shows (alone 3 (inState (Testing 4 200)) []) 3 (sees 1 0x263 nothing 0)
+    ∷ shows (alone 3 (waits (inState Reserved) (withReply noneWaiting true)) []) 3 (sees 2 0x263 (next (bare 0x10700263)) 0)
+    ∷ shows (alone 3 permitted []) 3 (sees 3 0x263 nothing 0)
+    ∷ shows (alone 3 leaving []) 3 (sees 4 0x263 (next (withId 0x10703263 0x050101010101)) 0)
+    -- a Resting and a Silent node use none
+    ∷ shows (alone 3 (inState Resting) []) 3 (sees 5 0 nothing 0)
+    ∷ shows (alone 3 (inState Silent) []) 3 (sees 6 0 nothing 0)
+    -- a frame of an inbox: place 0 is the oldest; 6 beyond the last; 1 first
+    ∷ finds (alone 3 testing (frame1 ∷ frame2 ∷ [])) 3 0 (accepted frame1)
+    ∷ finds (alone 3 testing (frame1 ∷ frame2 ∷ [])) 3 1 (accepted frame2)
+    ∷ finds (alone 3 testing (frame1 ∷ frame2 ∷ [])) 3 2 (refused 6)
+    ∷ finds start 24 0 (refused 1)
+    ∷ []
+
+abbrev pub examples : List (List Example)
+examples = ofAnswers ∷ ofPlaces ∷ ofAges ∷ ofKept ∷ ofLooks ∷ []
+
+pub examples-hold : AllOf examples
+unfolding roomBut run answers aged old kept seen looks frameIn looksIn offNode fresh restart moved counted waits cidFrame ridFrame amdFrame amrFrame firstWaiting dueOf tickOf sentPermitted sentOf failedOf sameAlias addressed otherAlias received malformed used trimmed onPowerOn onLeave onFail orders onMessage onEnquiry onRelease kindIn mixed
+examples-hold = (
+  (refl, (refl, (refl, (refl, (refl, (refl, (refl, (refl, (refl, (refl, (refl, (refl, (refl, (refl, (refl, (refl, (refl, (refl, (refl, (refl, (refl, (refl, (refl, (refl, (refl, (refl, (refl, (refl, (refl, (refl, (refl, (refl, tt)))))))))))))))))))))))))))))))),
+  (
+    (refl, (refl, (refl, (refl, (refl, (refl, (refl, (refl, (refl, (refl, (refl, (refl, (refl, (refl, (refl, (refl, (refl, (refl, (refl, (refl, (refl, (refl, ((refl, refl), ((refl, refl), tt)))))))))))))))))))))))),
+    (
+      ((refl, refl), ((refl, refl), ((refl, refl), ((refl, refl), ((refl, refl), ((refl, refl), ((refl, refl), ((refl, refl), ((refl, refl), ((refl, refl), ((refl, refl), ((refl, refl), ((refl, refl), ((refl, refl), ((refl, refl), ((refl, refl), ((refl, refl), ((refl, refl), ((refl, refl), ((refl, refl), ((refl, refl), tt))))))))))))))))))))),
+      (
+        (refl, (refl, (refl, (refl, (refl, (refl, (refl, (refl, (refl, (refl, (refl, (refl, (refl, (refl, tt)))))))))))))),
+        (
+          (refl, (refl, (refl, (refl, (refl, (refl, (refl, (refl, (refl, (refl, (refl, (refl, (refl, tt))))))))))))),
+          tt,
+        ),
+      ),
+    ),
+  ),
+)

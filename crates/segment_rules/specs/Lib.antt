@@ -1,0 +1,6 @@
+-- What is to be believed of the segment and what is proved of it, in reading order.
+pub mod Rules
+pub mod Looks
+pub mod Limits
+pub mod Examples
+pub mod LimitLaws
