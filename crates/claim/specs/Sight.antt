@@ -21,20 +21,20 @@ use Rattle.node.specs.Stand.{
   Asks,
   Turns,
   stops,
-  answers,
+  begins-to-owe,
   still-owes,
   still-departs,
   holder-leaves,
   ower-leaves,
   Grows,
-  counts,
+  advances,
   rests,
   Sends,
   ends,
   asks,
   takes,
   replies,
-  stays,
+  as-before,
   turns-uses,
   turns-tests,
   sends-uses,
@@ -168,7 +168,7 @@ module _ (i o a : ℕ) where
       known : {s t : Stand} → Turns s t → OutTo o (timedBy s) r → (w : ℕ) → Uses t → KnowsOf s r xs gs w
           → KnowsOf t (agesBetween s t r) ys hs w
       known (stops s) l w u k = absurd u
-      known answers l w u k = omega (arith, since w k)
+      known begins-to-owe l w u k = omega (arith, since w k)
       known still-owes l w u k = omega arith
       known still-departs l w u k = omega arith
       known holder-leaves l w u k = omega (arith, since w k)
@@ -241,7 +241,7 @@ module _ (i o a : ℕ) where
 
       known : {s t : Stand} → Grows d s t → (w v : ℕ) → v ≤ w + d → KnowsOf s r xs gs w
           → KnowsOf t (passAge d (timedBy t) (agesBetween s t r)) xs (map (λ x. x + d) gs) v
-      known (counts x y l) w v le k = k
+      known (advances x y l) w v le k = k
       known (rests s) w v le k = rested s w v le k
 
   -- A FRAME LEAVES
@@ -268,4 +268,4 @@ module _ (i o a : ℕ) where
       known (asks z) l w u u′ k = absurd u
       known (takes v le z) l w u u′ k = absurd u
       known (replies z) l w u u′ k = inr (z, omega arith)
-      known (stays s) l w u u′ k = inl (same s w u k)
+      known (as-before s) l w u u′ k = inl (same s w u k)

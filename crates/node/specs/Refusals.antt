@@ -33,7 +33,7 @@ use Rattle.node.specs.Rules.{
   onFail,
   onReceive,
   hostWaits,
-  orders,
+  hostOrders,
   ordered,
   onMessage,
   onEnquiry,
@@ -81,7 +81,7 @@ module _ (w : ℕ) (n : Node) where
   two-off a m t = two-resulting (refuse (isOff (n .phase)) 2 a) n m (two-refuse (isOff (n .phase)) 2 a (omega arith) t)
 
   two-ordered : (bad : Bool) (h : Host) → TwoDigits (ordered n bad h .answer)
-  unfolding orders
+  unfolding hostOrders
   two-ordered bad h = go (isOff (n .phase)) bad
     where
       later : Answer Value

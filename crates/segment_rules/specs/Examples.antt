@@ -47,7 +47,7 @@ use Rattle.node.specs.Rules.{
   onPowerOn,
   onLeave,
   onFail,
-  orders,
+  hostOrders,
   onMessage,
   onEnquiry,
   onRelease,
@@ -381,7 +381,7 @@ abbrev pub examples : List (List Example)
 examples = ofAnswers ∷ ofPlaces ∷ ofAges ∷ ofKept ∷ ofLooks ∷ []
 
 pub examples-hold : AllOf examples
-unfolding roomBut run answers aged old kept seen looks frameIn looksIn offNode fresh restart moved counted waits cidFrame ridFrame amdFrame amrFrame firstWaiting dueOf tickOf sentPermitted sentOf failedOf sameAlias addressed otherAlias received malformed used trimmed onPowerOn onLeave onFail orders onMessage onEnquiry onRelease kindIn mixed
+unfolding roomBut run answers aged old kept seen looks frameIn looksIn offNode fresh restart moved counted waits cidFrame ridFrame amdFrame amrFrame firstWaiting dueOf tickOf sentPermitted sentOf failedOf sameAlias addressed otherAlias received malformed used trimmed onPowerOn onLeave onFail hostOrders onMessage onEnquiry onRelease kindIn mixed
 examples-hold = (
   (refl, (refl, (refl, (refl, (refl, (refl, (refl, (refl, (refl, (refl, (refl, (refl, (refl, (refl, (refl, (refl, (refl, (refl, (refl, (refl, (refl, (refl, (refl, (refl, (refl, (refl, (refl, (refl, (refl, (refl, (refl, (refl, tt)))))))))))))))))))))))))))))))),
   (

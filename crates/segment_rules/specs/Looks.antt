@@ -20,14 +20,14 @@ stateNumber (Leaving why) = 4
 stateNumber Resting = 5
 stateNumber Silent = 6
 
-abbrev pub tests : Phase → Bool
-tests Off = false
-tests (Testing sent ticks) = true
-tests Reserved = false
-tests Permitted = false
-tests (Leaving why) = false
-tests Resting = false
-tests Silent = false
+abbrev pub isTesting : Phase → Bool
+isTesting Off = false
+isTesting (Testing sent ticks) = true
+isTesting Reserved = false
+isTesting Permitted = false
+isTesting (Leaving why) = false
+isTesting Resting = false
+isTesting Silent = false
 
 -- The Node ID, 0 where the node is Off.
 abbrev pub idSeen : Phase → ℕ → ℕ
@@ -35,7 +35,7 @@ idSeen p id = cond (isOff p) 0 id
 
 -- The alias in test or in use, 0 where neither.
 abbrev pub aliasSeen : Phase → ℕ → ℕ
-aliasSeen p a = cond (tests p || uses p) a 0
+aliasSeen p a = cond (isTesting p || uses p) a 0
 
 -- State, Node ID, alias, the due frame or none, and how many frames the inbox has.
 pub record Seen : Type 0 where

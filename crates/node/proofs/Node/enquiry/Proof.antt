@@ -17,4 +17,4 @@ enquiry-spec =
     (λ c. simp (c .refused2 .ensures, sym (c .before .before .asks .ensures) ∙ not-true _ (c .before .if2 .taken), sym (c .before .before .before .before .is-off .ensures) ∙ c .before .before .before .if1 .left) refl)
     (λ c κs. search needs)
     (λ c κs. search needs)
-    (λ c. simp (c .orders .ensures, c .before .used-bytes .ensures, sym (c .before .before .before .asks .ensures) ∙ not-false _ (c .before .before .if2 .left), sym (c .before .before .before .before .before .is-off .ensures) ∙ c .before .before .before .before .if1 .left)))
+    (λ c. simp (c .host-orders .ensures, c .before .used-bytes .ensures, sym (c .before .before .before .asks .ensures) ∙ not-false _ (c .before .before .if2 .left), sym (c .before .before .before .before .before .is-off .ensures) ∙ c .before .before .before .before .if1 .left)))

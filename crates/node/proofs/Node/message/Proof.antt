@@ -18,4 +18,4 @@ message-spec =
     (λ c. simp (c .refused3 .ensures, lt-ltb _ _ (c .before .if3 .taken), lt-leb _ _ (c .before .before .if2 .left), sym (c .before .before .before .before .is-off .ensures) ∙ c .before .before .before .if1 .left))
     (λ c κs. search needs)
     (λ c κs. search needs)
-    (λ c. simp (c .orders .ensures, c .before .used-bytes .ensures, le-ltb _ _ (c .before .before .if3 .left), lt-leb _ _ (c .before .before .before .if2 .left), sym (c .before .before .before .before .before .is-off .ensures) ∙ c .before .before .before .before .if1 .left)))
+    (λ c. simp (c .host-orders .ensures, c .before .used-bytes .ensures, le-ltb _ _ (c .before .before .if3 .left), lt-leb _ _ (c .before .before .before .if2 .left), sym (c .before .before .before .before .before .is-off .ensures) ∙ c .before .before .before .before .if1 .left)))

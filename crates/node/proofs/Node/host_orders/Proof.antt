@@ -1,12 +1,12 @@
 use mathlib.Core.Path.{_∙_, sym, refl}
-use Rattle.node.specs.Rules.{orders}
+use Rattle.node.specs.Rules.{hostOrders}
 use borrow.Author.Needs.{needs}
-use Rattle.node.proofs.Node.orders.Statement.{statement}
-use Rattle.node.proofs.Node.orders.Tie as tie
+use Rattle.node.proofs.Node.host_orders.Statement.{statement}
+use Rattle.node.proofs.Node.host_orders.Tie as tie
 
-pub orders-spec : {M : Type 1} → statement M
-unfolding orders
-orders-spec =
+pub host-orders-spec : {M : Type 1} → statement M
+unfolding hostOrders
+host-orders-spec =
     tie.close (tie.spec
     (λ c κs. search needs)
     (λ c κs. search needs)
