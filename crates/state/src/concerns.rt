@@ -59,19 +59,20 @@ fn kind_concern(k: Kind) -> Concern
     }
 }
 
-// What of a frame concerns a node with this alias, in this phase. This alone reads the header.
+// What of a frame concerns a node with this alias, in this phase. This alone reads the header, and tells the kind from the parts
+// only where it decides: most frames have another alias.
 pub fn concern_of(alias: Alias, phase: Phase, f: Frame) -> Concern
     ensures { λ r. ⌜ r ≡ concern (alias .0) phase f ⌝ }
 {
     if f.kind == 0 {
         let p = headers::header::parts_of(f.header);
-        let k = p.kind;
+        let t = p.class;
         let s = p.alias;
         if s.same(alias) {
-            return Concern::SameAlias(is_cid(k));
+            return Concern::SameAlias(is_cid(headers::header::kind_of(t, p.field)));
         }
         if phase.is_permitted() {
-            return kind_concern(k);
+            return kind_concern(headers::header::kind_of(t, p.field));
         }
         return Concern::Nothing;
     }

@@ -1,5 +1,4 @@
-use mathlib.Core.Path.{sym, ap, _∙_}
-use Rattle.state.specs.Concerns.{isNothing}
+use mathlib.Core.Path.{sym, _∙_}
 use Rattle.table.proofs.Changed.{heard-at, unheard-at}
 use borrow.Author.Needs.{needs}
 use Rattle.table.proofs.change.heed.Statement.{statement}
@@ -10,7 +9,8 @@ heed-spec =
     tie.close (tie.spec
     (λ c κs. search needs)
     (λ c κs. search needs)
-    (λ c. λ h e. unheard-at _ _ _ _ h (c .before .before .before .pre) e (ap isNothing (sym (c .before .before .concern .ensures)) ∙ sym (c .before .is-nothing .ensures) ∙ c .if1 .taken))
+    (λ c. λ h. unheard-at _ _ _ _ (c .before .before .concern-at .ensures) h (c .before .before .before .before .pre) (sym (c .before .is-nothing .ensures) ∙ c .if1 .taken))
     (λ c κs. search needs)
     (λ c κs. search needs)
-    (λ c. λ h e. heard-at _ _ _ _ _ _ _ (c .before .before .before .before .before .concern .ensures) (c .before .before .takes .ensures) (c .becomes .ensures h e)))
+    (λ c κs. search needs)
+    (λ c. λ h. heard-at _ _ _ _ (c .before .before .before .before .before .before .before .concern-at .ensures) _ _ _ (c .becomes .ensures h) (c .before .before .before .load-node .ensures) (c .before .before .takes .ensures)))
