@@ -2,7 +2,7 @@
 -- whole node. This is the file to believe of the crate.
 use Prim.Native.Nat.{ℕ, _+_, _*_, _/_, _%_, _^_}
 use mathlib.Core.Bool.{Bool, true, false, cond, _&&_}
-use mathlib.Core.List.{List, [], _∷_}
+use mathlib.Core.List.{[], _∷_}
 use lib.Dec.{ltb, eqb}
 pub use Rattle.headers.specs.Rules.{
   Answer,

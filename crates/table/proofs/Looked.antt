@@ -10,7 +10,7 @@ use Rattle.headers.specs.declared.frame.Frame.{Frame}
 use Rattle.node.specs.Rules.{Answer, accepted, refused, refuse, wait, Due, dueOf}
 use Rattle.node.specs.declared.Node.{Node}
 use Rattle.segment_rules.specs.Rules.{places, inboxRoom, Place}
-use Rattle.segment_rules.specs.Looks.{stateNumber, idSeen, aliasSeen, Seen, seen, looks, frameIn, looksIn}
+use Rattle.segment_rules.specs.Looks.{stateNumber, idSeen, aliasSeen, seen, looks, frameIn, looksIn}
 use Rattle.pack.specs.Words.{frameFrom}
 use Rattle.table.specs.Words.{frameOf, placeOf, countAt, firstAt, slot, block, nodeAt, itemAt, items, inbox, cellAt, view}
 use Rattle.table.specs.WordLaws.{view-at}

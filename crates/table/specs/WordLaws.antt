@@ -11,8 +11,8 @@ use lib.ListN.{length, getD}
 use Rattle.node.specs.Rules.{timedFor}
 use Rattle.segment_rules.specs.Rules.{places, inboxRoom, blank, none}
 use Rattle.pack.specs.Laws.{node-same}
-use Rattle.pack.specs.Words.{round, since, timedAge, nodeFrom}
-use Rattle.table.specs.Words.{Cell, cell, placeOf, agesOf, block, words, countAt, firstAt, stampAt, slot, lateAt, clockAt, slackAt, nodeAt, itemFrom, itemAt, items, inbox, ageOf, cellAt, slackOf, view, viewAges, Held, At}
+use Rattle.pack.specs.Words.{round, since, timedAge}
+use Rattle.table.specs.Words.{Cell, cell, placeOf, agesOf, block, countAt, firstAt, stampAt, slot, lateAt, clockAt, slackAt, nodeAt, itemFrom, itemAt, items, inbox, ageOf, cellAt, slackOf, view, viewAges, Held, At}
 
 pub lt-or-le : (a b : ℕ) → (a < b) ⊎ (b ≤ a)
 lt-or-le a b = go (ltb a b) refl

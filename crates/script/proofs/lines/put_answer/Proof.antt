@@ -1,7 +1,7 @@
 use mathlib.Core.Path.{sym, ap, _∙_}
 use Prim.Native.Nat.{ℕ}
 use Rattle.script.specs.Rules.{answerText}
-use Rattle.text.specs.Sheet.{then, alike}
+use Rattle.text.specs.Sheet.{alike}
 use Rattle.node.specs.Rules.{refused}
 use Rattle.state.specs.Answers.{answerAs}
 use Rattle.state.specs.declared.Answer.{Answer}
@@ -17,10 +17,6 @@ put-answer-spec =
     (λ c. search needs)
     (λ c κs. search needs)
     (λ c. search needs)
-    (λ c. search needs)
-    (λ c κs. search needs)
-    (λ c. search needs)
-    (λ c κs. search needs)
     (λ c κs. search needs)
     (λ c. search needs)
     (λ c κs. search needs)
@@ -28,6 +24,6 @@ put-answer-spec =
     (λ c. search needs)
     (λ c. alike (c .before .before .put-all .ensures) (sym (ap (λ (a : Answer). answerText (answerAs a)) (c .before .before .before .before .before .enum-told .given .1))))
     (λ c. search needs)
-    (λ c. alike (then (then (c .before .before .before .before .before .before .before .before .before .before .before .put-all2 .ensures) (c .before .before .before .before .before .before .put-hex .ensures)) (c .before .before .put-data .ensures)) (sym (ap (λ (a : Answer). answerText (answerAs a)) (c .before .before .before .before .before .before .before .before .before .before .before .before .before .before .before .answer .given .1))))
+    (λ c. alike (c .before .before .put-sent .ensures) (sym (ap (λ (a : Answer). answerText (answerAs a)) (c .before .before .before .before .before .answer .given .1))))
     (λ c. search needs)
     (λ c. alike (c .before .before .put-refusal .ensures) (ap (λ (n : ℕ). answerText (refused n)) (c .before .before .before .number .ensures) ∙ sym (ap (λ (a : Answer). answerText (answerAs a)) (c .before .before .before .before .before .before .answer2 .given .1)))))

@@ -1,6 +1,5 @@
 use mathlib.Core.Path.{refl}
 use borrow.Author.Tests.{eq-eqb, ne-eqb}
-use native.Mathlib.Omega.{arith}
 use Rattle.state.specs.Rules.{isOwn}
 use borrow.Author.Needs.{needs}
 use Rattle.state.proofs.concerns.has_id.Statement.{statement}
