@@ -27,7 +27,7 @@ sent-spec =
     (λ c. search needs)
     (λ c. search needs)
     (λ c. search needs)
-    (λ c. simp (c .counted .ensures, lt-ltb _ _ (c .before .if1 .taken), c .before .before .before .p .given .1))
+    (λ c. simp (c .counted .ensures, lt-ltb _ _ (c .before .if1 .taken), c .before .before .before .p .given .1) refl)
     (λ c. simp (c .moved .ensures, le-ltb _ _ (c .before .if1 .left), c .before .before .before .p .given .1) refl)
     (λ c. simp (c .waits .ensures, c .before .with-reply .ensures, c .before .before .if2 .taken, c .before .before .before .enum-told .given .1) refl)
     (λ c. simp (c .moved2 .ensures, c .before .if2 .left, c .before .before .enum-told .given .1))

@@ -1,3 +1,4 @@
+use mathlib.Core.Path.{refl}
 use Rattle.text.specs.Rules.{digit}
 use borrow.Author.Tests.{lt-ltb, le-ltb}
 use borrow.Author.Needs.{needs}
@@ -13,4 +14,4 @@ digit-spec =
     (λ c. search needs)
     (λ c. search needs)
     (λ c. rw (lt-ltb _ _ (c .if1 .taken)))
-    (λ c. rw (le-ltb _ _ (c .if1 .left))))
+    (λ c. rw (le-ltb _ _ (c .if1 .left)) refl))
