@@ -8,7 +8,7 @@ use headers::frame::Frame;
 use state::Answer;
 use table::layout::WORDS;
 ghost use mathlib.Core.Path.{_≡_};
-ghost use Rattle.segment_rules.specs.Rules.{powerOn, send, fail, deliver, tick, foreign, message, enquiry, release};
+ghost use Rattle.segment_rules.specs.Rules.{powerOn, send, fail, deliver, tick, foreign, message, enquiry, release, link};
 ghost use Rattle.table.specs.Words.{Fresh, lateOf};
 ghost use Rattle.state.specs.Answers.{answerAs};
 ghost use Rattle.card_api.specs.Out.{codeOf};
@@ -143,5 +143,13 @@ pub extern "C" fn card_release(table: &mut [u64; WORDS], index: usize) -> u64
     ensures { λ r. ⌜ Coded (release index) (now (table .entry)) r (now (table .exit)) ⌝ }
 {
     let a = table::commands::release(&mut *table, index);
+    code(a)
+}
+
+#[no_mangle]
+pub extern "C" fn card_link(table: &mut [u64; WORDS], index: usize, state: u8) -> u64
+    ensures { λ r. ⌜ Coded (link index state) (now (table .entry)) r (now (table .exit)) ⌝ }
+{
+    let a = table::commands::link(&mut *table, index, state);
     code(a)
 }

@@ -38,11 +38,15 @@ use Rattle.node.specs.Rules.{
   onMessage,
   onEnquiry,
   onRelease,
+  linkOf,
+  linkTold,
+  onLink,
   powerOn,
   fail,
   message,
   enquiry,
   release,
+  link,
   Event,
   order,
   leave,
@@ -112,12 +116,13 @@ module _ (w : ℕ) (n : Node) where
       go (next f) = tt
 
   pub two-digits : (e : Event) → TwoDigits (outcome w n e .answer)
-  unfolding onReceive onMessage onEnquiry onRelease
+  unfolding onReceive onMessage onEnquiry onRelease onLink
   two-digits (order (powerOn id)) = two-power id
   two-digits (order fail) = two-fail
   two-digits (order (message f l b)) = two-ordered (leb (2 ^ 15) f || ltb 8 l) _
   two-digits (order (enquiry l b)) = two-ordered (not (eqb l 0 || eqb l 6)) _
   two-digits (order release) = two-off _ (moved n (Leaving Release)) (two-refuse (not (isPermitted (n .phase))) 7 (accepted done) (omega arith) tt)
+  two-digits (order (link s)) = two-off _ (linkTold n (linkOf s)) (two-refuse (ltb 2 s) 14 (accepted done) (omega arith) tt)
   two-digits leave = two-leave
   two-digits (receive f) = two-off _ (received n f) (two-refuse (malformed f) 9 (accepted done) (omega arith) tt)
   two-digits tick = tt

@@ -2,17 +2,21 @@
 use crate::Node;
 use crate::Own;
 use headers::alias::Alias;
+use state::Link;
 use state::Phase;
 use state::Waiting;
 ghost use mathlib.Core.Path.{_≡_};
-ghost use Rattle.node.specs.Rules.{offNode, fresh, moved, counted, waits, restart};
+ghost use Rattle.node.specs.Rules.{offNode, fresh, moved, counted, waits, linked, restart};
 
 impl Node {
     // The node before its first power-on.
     pub fn off() -> Node
         ensures { λ r. ⌜ r ≡ offNode ⌝ }
     {
-        let o = Own { id: 0 };
+        let o = Own {
+            id: 0,
+            link: Link::ErrorActive,
+        };
         let w = Waiting::none();
         Node {
             own: o,
@@ -27,7 +31,10 @@ impl Node {
     pub(crate) fn fresh(id: u64, alias: Alias) -> Node
         ensures { λ r. ⌜ r ≡ fresh id alias ⌝ }
     {
-        let o = Own { id: id };
+        let o = Own {
+            id: id,
+            link: Link::ErrorActive,
+        };
         let w = Waiting::none();
         Node {
             own: o,
@@ -86,16 +93,37 @@ impl Node {
         }
     }
 
+    // With another link state.
+    pub(crate) fn linked(self, l: Link) -> Node
+        ensures { λ r. ⌜ r ≡ linked self l ⌝ }
+    {
+        let before = self.own;
+        let o = Own {
+            id: before.id,
+            link: l,
+        };
+        let a = self.alias;
+        let p = self.phase;
+        let w = self.waiting;
+        Node {
+            own: o,
+            alias: a,
+            generator: self.generator,
+            phase: p,
+            waiting: w,
+        }
+    }
+
     // Testing the next alias.
     pub(crate) fn restarted(self) -> Node
         ensures { λ r. ⌜ r ≡ restart self ⌝ }
     {
         let g = headers::alias::step_from(self.generator);
         let a = headers::alias::drawn_from(g);
-        let o = self.own;
+        let own = self.own;
         let w = Waiting::none();
         Node {
-            own: o,
+            own: own,
             alias: a,
             generator: g,
             phase: Phase::Testing(0, 0),

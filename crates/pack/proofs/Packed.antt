@@ -4,13 +4,13 @@ use Prim.Native.Nat.{ℕ, _+_, _*_, _/_, _%_, _^_, _<_}
 use native.Mathlib.Omega.{arith}
 use mathlib.Core.Bool.{Bool, true, false, cond}
 use lib.Dec.{ltb, eqb}
-use Rattle.node.specs.Rules.{isOff}
+use Rattle.node.specs.Rules.{isOff, linkOf}
 use Rattle.headers.specs.declared.frame.Frame.{Frame}
 use Rattle.node.specs.declared.Node.{Node}
 use Rattle.state.specs.declared.Phase.the-variants.{Off, Testing, Reserved, Permitted, Leaving, Resting, Silent}
 use Rattle.state.specs.declared.Reason.the-variants.{Collision, Release}
 use Rattle.state.specs.declared.Host.the-variants.{Message, Enquiry}
-use Rattle.pack.specs.Words.{frameFrom, round, stampIn, phaseFrom, phaseAt, phaseIn, hostFrom, hostAt, StateOf}
+use Rattle.pack.specs.Words.{frameFrom, round, stampIn, phaseFrom, phaseAt, phaseIn, errorFrom, hostFrom, hostAt, StateOf}
 
 -- the lowest digit of a number
 digit : (q s n : ℕ) → s < 2 ^ 8 → q ≡ s + 2 ^ 8 * n → q % 2 ^ 8 ≡ s
@@ -18,6 +18,12 @@ digit q s n h e = omega arith
 
 bit-of : (q s n : ℕ) → s < 2 → q ≡ s + 2 * n → q % 2 ≡ s
 bit-of q s n h e = omega arith
+
+two-of : (q s n : ℕ) → s < 4 → q ≡ s + 4 * n → q % 4 ≡ s
+two-of q s n h e = omega arith
+
+three-of : (q s n : ℕ) → s < 8 → q ≡ s + 8 * n → q % 8 ≡ s
+three-of q s n h e = omega arith
 
 low-8 : (q s : ℕ) → s < 2 ^ 8 → q ≡ s → q % 2 ^ 8 ≡ s
 low-8 q s h e = omega arith
@@ -115,24 +121,29 @@ host-enquiry l x r b (ex, hl) e =
     let q : r / 2 ^ 8 ≡ l = omega arith in
     λ i. hostFrom (t i) (r / 2 ^ 16 % 2 ^ 16) (low-8 (r / 2 ^ 8) l hl q i) b
 
--- the word of alias, phase and flags
-pub state-of : (n : Node) (w a r m o p : ℕ) → (a ≡ n .alias .0) × (n .alias .0 < 2 ^ 16)
+-- the word of alias, link state, phase and flags
+pub state-of : (n : Node) (w a r m o e k l p : ℕ) → (a ≡ n .alias .0) × (n .alias .0 < 2 ^ 16)
     → (eqb r 1 ≡ n .waiting .reply) × (r < 2) → (eqb m 1 ≡ n .waiting .amd) × (m < 2) → (eqb o 1 ≡ n .waiting .report) × (o < 2)
+    → (errorFrom e ≡ n .waiting .error) × (e < 8) → (linkOf k ≡ n .own .link) × (k < 3) → (l ≡ k) × (k < 2 ^ 8)
     → (phaseAt p ≡ n .phase) × (p < 2 ^ 19)
-    → w ≡ a + 2 ^ 16 * r + 2 ^ 17 * m + 2 ^ 18 * o + 2 ^ 24 * p → StateOf n w
-state-of n w a r m o p (ea, ha) (er, hr) (em, hm) (eo, ho) (ep, hp) ew =
+    → w ≡ a + 2 ^ 16 * r + 2 ^ 17 * m + 2 ^ 18 * o + 2 ^ 19 * e + 2 ^ 22 * l + 2 ^ 24 * p → StateOf n w
+state-of n w a r m o e k l p (ea, ha) (er, hr) (em, hm) (eo, ho) (ee, he) (ek, hk) (el, hk′) (ep, hp) ew =
     let p′ : w / 2 ^ 24 ≡ p = omega arith in
-    let q′ : w / 2 ^ 16 ≡ r + 2 * (m + 2 * o + 2 ^ 7 * p) = omega arith in
-    let s′ : w / 2 ^ 17 ≡ m + 2 * (o + 2 ^ 6 * p) = omega arith in
-    let u′ : w / 2 ^ 18 ≡ o + 2 * (2 ^ 5 * p) = omega arith in
-    let er′ : eqb (w / 2 ^ 16 % 2) 1 ≡ n .waiting .reply = ap (λ (z : ℕ). eqb z 1) (bit-of (w / 2 ^ 16) r (m + 2 * o + 2 ^ 7 * p) hr q′) ∙ er in
-    let em′ : eqb (w / 2 ^ 17 % 2) 1 ≡ n .waiting .amd = ap (λ (z : ℕ). eqb z 1) (bit-of (w / 2 ^ 17) m (o + 2 ^ 6 * p) hm s′) ∙ em in
-    let eo′ : eqb (w / 2 ^ 18 % 2) 1 ≡ n .waiting .report = ap (λ (z : ℕ). eqb z 1) (bit-of (w / 2 ^ 18) o (2 ^ 5 * p) ho u′) ∙ eo in
+    let k′ : w / 2 ^ 22 ≡ k + 4 * p = omega arith in
+    let e′ : w / 2 ^ 19 ≡ e + 8 * (k + 4 * p) = omega arith in
+    let o′ : w / 2 ^ 18 ≡ o + 2 * (e + 8 * (k + 4 * p)) = omega arith in
+    let m′ : w / 2 ^ 17 ≡ m + 2 * (o + 2 * (e + 8 * (k + 4 * p))) = omega arith in
+    let r′ : w / 2 ^ 16 ≡ r + 2 * (m + 2 * (o + 2 * (e + 8 * (k + 4 * p)))) = omega arith in
+    let er′ : eqb (w / 2 ^ 16 % 2) 1 ≡ n .waiting .reply = ap (λ (z : ℕ). eqb z 1) (bit-of (w / 2 ^ 16) r _ hr r′) ∙ er in
+    let em′ : eqb (w / 2 ^ 17 % 2) 1 ≡ n .waiting .amd = ap (λ (z : ℕ). eqb z 1) (bit-of (w / 2 ^ 17) m _ hm m′) ∙ em in
+    let eo′ : eqb (w / 2 ^ 18 % 2) 1 ≡ n .waiting .report = ap (λ (z : ℕ). eqb z 1) (bit-of (w / 2 ^ 18) o _ ho o′) ∙ eo in
+    let ee′ : errorFrom (w / 2 ^ 19 % 8) ≡ n .waiting .error = ap errorFrom (three-of (w / 2 ^ 19) e _ he e′) ∙ ee in
     let ea′ : w % 2 ^ 16 ≡ n .alias .0 = omega arith in
     record {
+      link = ap linkOf (two-of (w / 2 ^ 22) k p (omega arith) k′) ∙ ek;
       alias = λ i. record { 0 = ea′ i };
       phase = ap phaseAt (low-19 (w / 2 ^ 24) p hp p′) ∙ ep;
-      waiting = λ i. record { reply = er′ i; amd = em′ i; report = eo′ i; host = n .waiting .host };
+      waiting = λ i. record { reply = er′ i; amd = em′ i; report = eo′ i; error = ee′ i; host = n .waiting .host };
     }
 
 -- the phase's tag alone says whether it is Off

@@ -6,11 +6,11 @@ use native.Mathlib.Omega.{arith}
 use lib.ListN.{getD}
 use Rattle.node.specs.Rules.{offNode}
 use Rattle.node.specs.declared.Node.{Node}
-use Rattle.pack.specs.Words.{aliasFrom, phaseAt, phaseIn, hostAt, hostBytes, waitingFrom, nodeWords, nodeFrom, StateOf}
+use Rattle.pack.specs.Words.{aliasFrom, linkIn, phaseAt, phaseIn, hostAt, hostBytes, waitingFrom, nodeWords, nodeFrom, StateOf}
 
 pub node-same : (v w : ℕ → ℕ) → ((j : ℕ) → j < nodeWords → v j ≡ w j) → nodeFrom v ≡ nodeFrom w
 node-same v w e = λ i. record {
-  own = record { id = e 0 (omega arith) i };
+  own = record { id = e 0 (omega arith) i; link = linkIn (e 2 (omega arith) i) };
   generator = e 1 (omega arith) i;
   alias = aliasFrom (e 2 (omega arith) i);
   phase = phaseIn (e 2 (omega arith) i);
@@ -26,7 +26,7 @@ pub node-back : (n : Node) (w h d : ℕ) → StateOf n w → hostAt h (hostBytes
 node-back n w h d s eh ed =
     let e : hostAt h d ≡ n .waiting .host = ap (hostAt h) ed ∙ eh in
     λ i. record {
-      own = n .own;
+      own = record { id = n .own .id; link = s .link i };
       generator = n .generator;
       alias = s .alias i;
       phase = s .phase i;

@@ -3,6 +3,7 @@ use mathlib.Core.Path.{_≡_}
 use Prim.Native.Nat.{ℕ, _+_, _-_, _/_, _%_, _^_}
 use mathlib.Core.Bool.{Bool, cond}
 use lib.Dec.{ltb, eqb}
+use Rattle.node.specs.Rules.{linkOf}
 use Rattle.headers.specs.declared.alias.Alias.{Alias}
 use Rattle.headers.specs.declared.frame.Frame.{Frame}
 use Rattle.node.specs.declared.Node.{Node}
@@ -10,6 +11,9 @@ use Rattle.state.specs.declared.Phase.{Phase}
 use Rattle.state.specs.declared.Phase.the-variants.{Off, Testing, Reserved, Permitted, Leaving, Resting, Silent}
 use Rattle.state.specs.declared.Reason.the-variants.{Collision, Release}
 use Rattle.state.specs.declared.Waiting.{Waiting}
+use Rattle.state.specs.declared.Link.{Link}
+use Rattle.state.specs.declared.Error.{Error}
+use Rattle.state.specs.declared.Error.the-variants.{NoReport, Report0, Report1, Report2, Report3}
 use Rattle.state.specs.declared.Host.{Host}
 use Rattle.state.specs.declared.Host.the-variants.{Empty, Message, Enquiry}
 use Rattle.state.specs.declared.Timed.{Timed}
@@ -55,13 +59,24 @@ phaseIn w = phaseAt (w / 2 ^ 24 % 2 ^ 19)
 abbrev pub replyIn : ℕ → Bool
 replyIn w = eqb (w / 2 ^ 16 % 2) 1
 
+abbrev pub errorFrom : (tag : ℕ) → Error
+errorFrom tag =
+    cond (ltb tag 1) NoReport
+    (cond (ltb tag 2) Report0
+    (cond (ltb tag 3) Report1
+    (cond (ltb tag 4) Report2 Report3)))
+
 abbrev pub waitingFrom : ℕ → Host → Waiting
 waitingFrom w h = record {
   reply = replyIn w;
   amd = eqb (w / 2 ^ 17 % 2) 1;
   report = eqb (w / 2 ^ 18 % 2) 1;
+  error = errorFrom (w / 2 ^ 19 % 8);
   host = h;
 }
+
+abbrev pub linkIn : ℕ → Link
+linkIn w = linkOf (w / 2 ^ 22 % 4)
 
 -- How many words hold a node, and the node that they hold, by the number of each.
 abbrev pub nodeWords : ℕ
@@ -69,15 +84,16 @@ nodeWords = 5
 
 abbrev pub nodeFrom : (ℕ → ℕ) → Node
 nodeFrom w = record {
-  own = record { id = w 0 };
+  own = record { id = w 0; link = linkIn (w 2) };
   generator = w 1;
   alias = aliasFrom (w 2);
   phase = phaseIn (w 2);
   waiting = waitingFrom (w 2) (hostAt (w 3) (w 4));
 }
 
--- A word that says a node's alias, phase and what waits at it but the host frame.
+-- A word that says a node's link state, alias, phase and what waits at it but the host frame.
 pub record StateOf (n : Node) (w : ℕ) : Type 0 where
+  pub link : linkIn w ≡ n .own .link
   pub alias : aliasFrom w ≡ n .alias
   pub phase : phaseIn w ≡ n .phase
   pub waiting : waitingFrom w (n .waiting .host) ≡ n .waiting

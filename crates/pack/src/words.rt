@@ -3,14 +3,16 @@ use crate::ages::ROUND;
 use headers::alias::Alias;
 use headers::frame::Frame;
 use node::Node;
+use state::Error;
 use state::Host;
+use state::Link;
 use state::Phase;
 use state::Reason;
 use state::Waiting;
 ghost use mathlib.Core.Path.{_≡_};
 ghost use Prim.Native.Nat.{_%_, _^_, _<_};
 ghost use lib.Dec.{eqb};
-ghost use Rattle.pack.specs.Words.{frameFrom, aliasFrom, phaseAt, phaseIn, replyIn, waitingFrom, hostAt, hostBytes, StateOf, round, stampIn};
+ghost use Rattle.pack.specs.Words.{frameFrom, aliasFrom, linkIn, phaseAt, phaseIn, replyIn, errorFrom, waitingFrom, hostAt, hostBytes, StateOf, round, stampIn};
 ghost use Rattle.node.specs.Rules.{isOff};
 
 fn wide8(x: u8) -> u64
@@ -117,6 +119,37 @@ fn phase_at(w: u64) -> Phase
     Phase::Silent
 }
 
+// The error report that waits, if one does, in 3 bits.
+fn error_word(e: Error) -> u64
+    ensures { λ r. ⌜ (errorFrom r ≡ e) × (r < 8) ⌝ }
+{
+    match e {
+        Error::NoReport => 0,
+        Error::Report0 => 1,
+        Error::Report1 => 2,
+        Error::Report2 => 3,
+        Error::Report3 => 4,
+    }
+}
+
+fn error_at(w: u64) -> Error
+    ensures { λ r. ⌜ r ≡ errorFrom w ⌝ }
+{
+    if w < 1 {
+        return Error::NoReport;
+    }
+    if w < 2 {
+        return Error::Report0;
+    }
+    if w < 3 {
+        return Error::Report1;
+    }
+    if w < 4 {
+        return Error::Report2;
+    }
+    Error::Report3
+}
+
 // The host's order, if there is one: which it is, its length, and a message's field.
 pub fn host_word(h: Host) -> u64
     ensures { λ r. ⌜ hostAt r (hostBytes h) ≡ h ⌝ }
@@ -171,7 +204,7 @@ pub fn host_at(w: u64, bytes: u64) -> Host
     Host::Enquiry { len, bytes }
 }
 
-// A node's alias, what waits at it but the host frame, and its phase.
+// A node's alias, what waits at it but the host frame, its link state and its phase.
 pub fn state_word(n: Node) -> u64
     ensures { λ r. ⌜ StateOf n r ⌝ }
 {
@@ -181,15 +214,26 @@ pub fn state_word(n: Node) -> u64
     let r = bit(waiting.reply);
     let m = bit(waiting.amd);
     let o = bit(waiting.report);
+    let error = waiting.error;
+    let e = error_word(error);
+    let own = n.own;
+    let link = own.link;
+    let l = wide8(link.number());
     let phase = n.phase;
     let p = phase_word(phase);
-    a + 0x1_0000 * r + 0x2_0000 * m + 0x4_0000 * o + 0x100_0000 * p
+    a + 0x1_0000 * r + 0x2_0000 * m + 0x4_0000 * o + 0x8_0000 * e + 0x40_0000 * l + 0x100_0000 * p
 }
 
 pub fn alias_in(w: u64) -> Alias
     ensures { λ r. ⌜ r ≡ aliasFrom w ⌝ }
 {
     Alias((w % 0x1_0000) as u16)
+}
+
+pub fn link_in(w: u64) -> Link
+    ensures { λ r. ⌜ r ≡ linkIn w ⌝ }
+{
+    Link::of((w / 0x40_0000 % 4) as u8)
 }
 
 pub fn phase_in(w: u64) -> Phase
@@ -210,10 +254,12 @@ pub fn waiting_in(w: u64, host: Host) -> Waiting
     let reply = reply_in(w);
     let amd = flag(w / 0x2_0000 % 2);
     let report = flag(w / 0x4_0000 % 2);
+    let error = error_at(w / 0x8_0000 % 8);
     Waiting {
         reply,
         amd,
         report,
+        error,
         host,
     }
 }

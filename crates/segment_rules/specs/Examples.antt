@@ -1,4 +1,4 @@
--- Worked examples of the segment's rules: sentences of document 01, each at one segment, all in one statement.
+-- Worked examples of the segment's rules: sentences of document 01 and of A.1, each at one segment, all in one statement.
 use mathlib.Core.Path.{_≡_, refl}
 use mathlib.Core.Bool.{Bool, true, false, cond}
 use mathlib.Core.List.{List, [], _∷_}
@@ -20,6 +20,9 @@ use Rattle.node.specs.Rules.{
   withId,
   noneWaiting,
   withReply,
+  withAmd,
+  withReport,
+  withError,
   withHost,
   offNode,
   fresh,
@@ -27,10 +30,13 @@ use Rattle.node.specs.Rules.{
   moved,
   counted,
   waits,
+  linked,
   cidFrame,
   ridFrame,
   amdFrame,
   amrFrame,
+  reportFrame,
+  errorFrame,
   firstWaiting,
   dueOf,
   tickOf,
@@ -51,12 +57,19 @@ use Rattle.node.specs.Rules.{
   onMessage,
   onEnquiry,
   onRelease,
+  linkTold,
+  onLink,
 }
 use Rattle.headers.specs.declared.frame.Frame.{Frame}
 use Rattle.node.specs.declared.Node.{Node}
 use Rattle.state.specs.declared.Phase.{Phase}
 use Rattle.state.specs.declared.Phase.the-variants.{Testing, Reserved, Permitted, Leaving, Resting, Silent}
 use Rattle.state.specs.declared.Reason.the-variants.{Collision, Release}
+use Rattle.state.specs.declared.Waiting.{Waiting}
+use Rattle.state.specs.declared.Link.{Link}
+use Rattle.state.specs.declared.Link.the-variants.{ErrorActive, ErrorPassive, BusOff}
+use Rattle.state.specs.declared.Error.{Error}
+use Rattle.state.specs.declared.Error.the-variants.{Report0, Report1, Report2, Report3}
 use Rattle.state.specs.declared.Host.the-variants.{Message, Enquiry}
 use Rattle.segment_rules.specs.Rules.{
   limit,
@@ -75,6 +88,7 @@ use Rattle.segment_rules.specs.Rules.{
   message,
   enquiry,
   release,
+  link,
   roomBut,
   answer,
   step,
@@ -377,11 +391,76 @@ ofLooks =
     ∷ finds start 24 0 (refused 1)
     ∷ []
 
+-- THE LINK STATE (A.1)
+
+-- with error report 0 waiting; Permitted in a link state, with an error report waiting
+abbrev pub error0 : Waiting
+error0 = withError noneWaiting Report0
+
+abbrev pub reporting : Link → Error → Node
+reporting l e = waits (linked permitted l) (withError noneWaiting e)
+
+abbrev pub ofLinks : List Example
+ofLinks =
+    -- 0 at power-on
+    makes (alone 3 (linked permitted BusOff) []) (powerOn 3 0x050101010101) 3 testing []
+    -- a Permitted node: Error Passive from Error Active, from Bus Off; Error Active from Error Passive, from Bus Off; its inbox stays
+    ∷ makes (alone 3 permitted (frame1 ∷ [])) (link 3 1) 3 (reporting ErrorPassive Report0) (frame1 ∷ [])
+    ∷ makes (alone 3 (linked permitted BusOff) []) (link 3 1) 3 (reporting ErrorPassive Report1) []
+    ∷ makes (alone 3 (linked permitted ErrorPassive) []) (link 3 0) 3 (reporting ErrorActive Report2) []
+    ∷ makes (alone 3 (linked permitted BusOff) []) (link 3 0) 3 (reporting ErrorActive Report3) []
+    -- entering Bus Off gives none, and what waited stays
+    ∷ makes (alone 3 permitted []) (link 3 2) 3 (linked permitted BusOff) []
+    ∷ makes (alone 3 (linked permitted ErrorPassive) []) (link 3 2) 3 (linked permitted BusOff) []
+    ∷ makes (alone 3 (reporting ErrorPassive Report0) []) (link 3 2) 3 (reporting BusOff Report0) []
+    -- nor does an unchanged state
+    ∷ makes (alone 3 permitted []) (link 3 0) 3 permitted []
+    ∷ makes (alone 3 (reporting ErrorPassive Report0) []) (link 3 1) 3 (reporting ErrorPassive Report0) []
+    ∷ makes (alone 3 (linked permitted BusOff) []) (link 3 2) 3 (linked permitted BusOff) []
+    -- in other states the change is only remembered
+    ∷ makes (alone 3 testing []) (link 3 1) 3 (linked testing ErrorPassive) []
+    ∷ makes (alone 3 (inState Reserved) []) (link 3 1) 3 (linked (inState Reserved) ErrorPassive) []
+    ∷ makes (alone 3 leaving []) (link 3 1) 3 (linked leaving ErrorPassive) []
+    ∷ makes (alone 3 (inState Resting) []) (link 3 1) 3 (linked (inState Resting) ErrorPassive) []
+    ∷ makes (alone 3 (inState Silent) []) (link 3 1) 3 (linked (inState Silent) ErrorPassive) []
+    -- and a node that becomes Permitted later has none waiting
+    ∷ makes (alone 3 (linked (inState Reserved) ErrorPassive) []) (send 3) 3 (linked permitted ErrorPassive) []
+    -- the report carries the Node ID; once it has left it waits no more
+    ∷ says (alone 3 (reporting ErrorPassive Report0) []) (send 3) (accepted (left (withId 0x10710263 0x050101010101)))
+    ∷ says (alone 3 (reporting ErrorPassive Report1) []) (send 3) (accepted (left (withId 0x10711263 0x050101010101)))
+    ∷ says (alone 3 (reporting ErrorActive Report2) []) (send 3) (accepted (left (withId 0x10712263 0x050101010101)))
+    ∷ says (alone 3 (reporting ErrorActive Report3) []) (send 3) (accepted (left (withId 0x10713263 0x050101010101)))
+    ∷ makes (alone 3 (reporting ErrorPassive Report0) []) (send 3) 3 (linked permitted ErrorPassive) []
+    -- it stands after reply RID, AMD and duplicate report and before the host frame
+    ∷ shows (alone 3 (waits permitted (withReply error0 true)) []) 3 (sees 3 0x263 (next (bare 0x10700263)) 0)
+    ∷ shows (alone 3 (waits permitted (withAmd error0 true)) []) 3 (sees 3 0x263 (next (withId 0x10701263 0x050101010101)) 0)
+    ∷ shows (alone 3 (waits permitted (withReport error0 true)) []) 3 (sees 3 0x263 (next (reportFrame 0x263)) 0)
+    ∷ shows (alone 3 (waits permitted (withHost error0 (Enquiry 0 0))) []) 3 (sees 3 0x263 (next (withId 0x10710263 0x050101010101)) 0)
+    ∷ makes (alone 3 (waits permitted (withHost error0 (Enquiry 0 0))) []) (send 3) 3 (waits permitted (withHost noneWaiting (Enquiry 0 0))) []
+    -- a later one replaces it
+    ∷ makes (alone 3 (reporting ErrorPassive Report0) []) (link 3 0) 3 (reporting ErrorActive Report2) []
+    -- whatever leaves nothing waiting drops it, and the link state stays: a collision, a release, the duplicate report
+    ∷ makes (alone 3 (reporting ErrorPassive Report0) (ownMessage ∷ [])) (deliver 3) 3 (linked leaving ErrorPassive) []
+    ∷ makes (alone 3 (reporting ErrorPassive Report0) []) (release 3) 3 (linked (inState (Leaving Release)) ErrorPassive) []
+    ∷ makes (alone 3 (waits (linked permitted BusOff) (withReport error0 true)) []) (send 3) 3 (linked (inState Silent) BusOff) []
+    -- and so it does through a restart and when a released node rests
+    ∷ makes (alone 3 (linked testing BusOff) (ownCid ∷ [])) (deliver 3) 3 (linked (restart testing) BusOff) []
+    ∷ makes (alone 3 (linked (inState (Leaving Release)) BusOff) []) (send 3) 3 (linked (inState Resting) BusOff) []
+    -- a state above 2 is 14, tested after index and Off, and changes nothing
+    ∷ says (alone 3 permitted []) (link 3 2) (accepted done)
+    ∷ says (alone 3 permitted []) (link 3 3) (refused 14)
+    ∷ says start (link 24 3) (refused 1)
+    ∷ says start (link 23 3) (refused 2)
+    ∷ makes (alone 3 (reporting ErrorPassive Report0) []) (link 3 3) 3 (reporting ErrorPassive Report0) []
+    -- it has no age
+    ∷ judges (alone 3 (reporting ErrorPassive Report0) []) noAges (replicate 41 tick) true
+    ∷ []
+
 abbrev pub examples : List (List Example)
-examples = ofAnswers ∷ ofPlaces ∷ ofAges ∷ ofKept ∷ ofLooks ∷ []
+examples = ofAnswers ∷ ofPlaces ∷ ofAges ∷ ofKept ∷ ofLooks ∷ ofLinks ∷ []
 
 pub examples-hold : AllOf examples
-unfolding roomBut run answers aged old kept seen looks frameIn looksIn offNode fresh restart moved counted waits cidFrame ridFrame amdFrame amrFrame firstWaiting dueOf tickOf sentPermitted sentOf failedOf sameAlias addressed otherAlias received malformed used trimmed onPowerOn onLeave onFail hostOrders onMessage onEnquiry onRelease kindIn mixed
+unfolding roomBut run answers aged old kept seen looks frameIn looksIn offNode fresh restart moved counted waits linked cidFrame ridFrame amdFrame amrFrame errorFrame firstWaiting dueOf tickOf sentPermitted sentOf failedOf sameAlias addressed otherAlias received malformed used trimmed onPowerOn onLeave onFail hostOrders onMessage onEnquiry onRelease linkTold onLink kindIn mixed
 examples-hold = (
   (refl, (refl, (refl, (refl, (refl, (refl, (refl, (refl, (refl, (refl, (refl, (refl, (refl, (refl, (refl, (refl, (refl, (refl, (refl, (refl, (refl, (refl, (refl, (refl, (refl, (refl, (refl, (refl, (refl, (refl, (refl, (refl, tt)))))))))))))))))))))))))))))))),
   (
@@ -392,7 +471,10 @@ examples-hold = (
         (refl, (refl, (refl, (refl, (refl, (refl, (refl, (refl, (refl, (refl, (refl, (refl, (refl, (refl, tt)))))))))))))),
         (
           (refl, (refl, (refl, (refl, (refl, (refl, (refl, (refl, (refl, (refl, (refl, (refl, (refl, tt))))))))))))),
-          tt,
+          (
+            (refl, (refl, (refl, (refl, (refl, (refl, (refl, (refl, (refl, (refl, (refl, (refl, (refl, (refl, (refl, (refl, (refl, (refl, (refl, (refl, (refl, (refl, (refl, (refl, (refl, (refl, (refl, (refl, (refl, (refl, (refl, (refl, (refl, (refl, (refl, (refl, (refl, (refl, (refl, tt))))))))))))))))))))))))))))))))))))))),
+            tt,
+          ),
         ),
       ),
     ),

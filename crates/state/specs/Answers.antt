@@ -1,4 +1,4 @@
--- Document 01's number and values for each case of the code's enums.
+-- The papers' numbers and values for each case of the code's enums.
 use Prim.Native.Nat.{ℕ}
 use mathlib.Core.Bool.{Bool, true, false}
 use Rattle.state.specs.Rules.{Answer, accepted, refused, Due, nothing, next, Value, done, left}
@@ -20,6 +20,7 @@ refusalAs R.the-variants.InboxEmpty = 6
 refusalAs R.the-variants.NotPermitted = 7
 refusalAs R.the-variants.HostWaiting = 8
 refusalAs R.the-variants.Malformed = 9
+refusalAs R.the-variants.BadLinkState = 14
 
 abbrev pub answerAs : A.Answer → Answer Value
 answerAs A.the-variants.Accepted = accepted done

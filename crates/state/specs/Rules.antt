@@ -29,6 +29,10 @@ use Rattle.headers.specs.declared.frame.Frame.{Frame}
 use Rattle.state.specs.declared.Phase.{Phase}
 use Rattle.state.specs.declared.Phase.the-variants.{Off, Testing, Reserved, Permitted, Leaving, Resting, Silent}
 use Rattle.state.specs.declared.Waiting.{Waiting}
+use Rattle.state.specs.declared.Link.{Link}
+use Rattle.state.specs.declared.Link.the-variants.{ErrorActive, ErrorPassive, BusOff}
+use Rattle.state.specs.declared.Error.{Error}
+use Rattle.state.specs.declared.Error.the-variants.{NoReport, Report0, Report1, Report2, Report3}
 use Rattle.state.specs.declared.Host.{Host}
 use Rattle.state.specs.declared.Host.the-variants.{Empty, Message, Enquiry}
 use Rattle.state.specs.declared.Timed.{Timed}
@@ -72,24 +76,51 @@ wait = 201
 
 -- Of each sort one waits at most.
 abbrev pub noneWaiting : Waiting
-noneWaiting = record { reply = false; amd = false; report = false; host = Empty }
+noneWaiting = record { reply = false; amd = false; report = false; error = NoReport; host = Empty }
 
 abbrev pub withReply : Waiting → Bool → Waiting
-withReply w b = record { reply = b; amd = w .amd; report = w .report; host = w .host }
+withReply w b = record { reply = b; amd = w .amd; report = w .report; error = w .error; host = w .host }
 
 abbrev pub withAmd : Waiting → Bool → Waiting
-withAmd w b = record { reply = w .reply; amd = b; report = w .report; host = w .host }
+withAmd w b = record { reply = w .reply; amd = b; report = w .report; error = w .error; host = w .host }
 
 abbrev pub withReport : Waiting → Bool → Waiting
-withReport w b = record { reply = w .reply; amd = w .amd; report = b; host = w .host }
+withReport w b = record { reply = w .reply; amd = w .amd; report = b; error = w .error; host = w .host }
+
+abbrev pub withError : Waiting → Error → Waiting
+withError w e = record { reply = w .reply; amd = w .amd; report = w .report; error = e; host = w .host }
 
 abbrev pub withHost : Waiting → Host → Waiting
-withHost w h = record { reply = w .reply; amd = w .amd; report = w .report; host = h }
+withHost w h = record { reply = w .reply; amd = w .amd; report = w .report; error = w .error; host = h }
 
 abbrev pub hostWaits : Host → Bool
 hostWaits Empty = false
 hostWaits (Message field len bytes) = true
 hostWaits (Enquiry len bytes) = true
+
+abbrev pub errorWaits : Error → Bool
+errorWaits NoReport = false
+errorWaits Report0 = true
+errorWaits Report1 = true
+errorWaits Report2 = true
+errorWaits Report3 = true
+
+-- THE LINK STATE (A.1)
+
+-- 0 Error Active, 1 Error Passive, 2 Bus Off. Above 2 it is refused.
+abbrev pub linkOf : ℕ → Link
+linkOf state = cond (eqb state 0) ErrorActive (cond (eqb state 1) ErrorPassive BusOff)
+
+-- A Permitted node has error report 0 to 3 waiting as 002, 6.2.7, names the change: which state it enters, and from which. A
+-- later one replaces it. Entering Bus Off and an unchanged state give none.
+abbrev pub errorOn : (enters from : Link) → (waiting : Error) → Error
+errorOn ErrorPassive ErrorActive e = Report0
+errorOn ErrorPassive BusOff e = Report1
+errorOn ErrorActive ErrorPassive e = Report2
+errorOn ErrorActive BusOff e = Report3
+errorOn BusOff from e = e
+errorOn ErrorActive ErrorActive e = e
+errorOn ErrorPassive ErrorPassive e = e
 
 -- THE FRAMES, by the Node ID and the alias of their sender
 
@@ -139,6 +170,17 @@ reportFrame a = record {
 pub data Due : Type 0 where
   nothing : Due
   next : Frame → Due
+
+-- A.1: the error report, type 0, field 0x0710 and its number, carries the Node ID.
+unfoldable pub errorFrame : (number id alias : ℕ) → Frame
+errorFrame number id a = withId (header 0 (0x0710 + number) a) id
+
+abbrev pub errorDue : Error → (id alias : ℕ) → Due
+errorDue NoReport id a = nothing
+errorDue Report0 id a = next (errorFrame 0 id a)
+errorDue Report1 id a = next (errorFrame 1 id a)
+errorDue Report2 id a = next (errorFrame 2 id a)
+errorDue Report3 id a = next (errorFrame 3 id a)
 
 -- The host frame is type 1 with a message's field and data, or an AME with an enquiry's data.
 abbrev pub hostDue : Host → (alias : ℕ) → Due

@@ -5,7 +5,7 @@ ghost use mathlib.Core.Path.{_≡_};
 ghost use Rattle.state.specs.Answers.{refusalAs, answerAs, isRefused};
 
 impl Refusal {
-    // Its number in document 01.
+    // Its number in documents 01 and 02.
     pub fn number(self) -> u8
         ensures { λ n. ⌜ n ≡ refusalAs self ⌝ }
     {
@@ -19,6 +19,7 @@ impl Refusal {
             Refusal::NotPermitted => 7,
             Refusal::HostWaiting => 8,
             Refusal::Malformed => 9,
+            Refusal::BadLinkState => 14,
         }
     }
 }

@@ -1,5 +1,6 @@
 // The frames that a node sends, by its Node ID and the alias that it has.
 use crate::Due;
+use crate::Error;
 use crate::Host;
 use headers::alias::Alias;
 use headers::frame::Frame;
@@ -18,6 +19,8 @@ ghost use Rattle.state.specs.Rules.{
   amdFrame,
   amrFrame,
   reportFrame,
+  errorFrame,
+  errorDue,
   hostDue,
 };
 
@@ -110,6 +113,30 @@ pub fn duplicate_report(alias: Alias) -> Frame
         header: headers::header::header_of(Type::Message, 0x15B4, alias),
         len: 7,
         bytes: 0x0101_0000_0002_0100,
+    }
+}
+
+// The error report with this number.
+fn error_report(number: u16, id: u64, alias: Alias) -> Frame
+    requires { ⌜ number < 4 ⌝ }
+    ensures { λ r. ⌜ r ≡ errorFrame number id (alias .0) ⌝ }
+{
+    id_frame(
+        headers::header::header_of(Type::Control, 0x0710 + number, alias),
+        id,
+    )
+}
+
+// The error report that waits, if one does.
+pub fn error_due(e: Error, id: u64, alias: Alias) -> Due
+    ensures { λ r. ⌜ dueAs r ≡ errorDue e id (alias .0) ⌝ }
+{
+    match e {
+        Error::NoReport => Due::Nothing,
+        Error::Report0 => Due::Next(error_report(0, id, alias)),
+        Error::Report1 => Due::Next(error_report(1, id, alias)),
+        Error::Report2 => Due::Next(error_report(2, id, alias)),
+        Error::Report3 => Due::Next(error_report(3, id, alias)),
     }
 }
 

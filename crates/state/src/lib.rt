@@ -2,6 +2,7 @@
 pub mod answers;
 pub mod concerns;
 pub mod frames;
+pub mod links;
 pub mod pending;
 pub mod phases;
 
@@ -32,11 +33,28 @@ pub enum Host {
     Enquiry { len: u8, bytes: u64 },
 }
 
+// A node's link state, as its host tells it.
+pub enum Link {
+    ErrorActive,
+    ErrorPassive,
+    BusOff,
+}
+
+// The error report that waits, if one does, by the standard's number.
+pub enum Error {
+    NoReport,
+    Report0,
+    Report1,
+    Report2,
+    Report3,
+}
+
 // All that waits to be sent, one of each sort at most.
 pub struct Waiting {
     pub reply: bool,
     pub amd: bool,
     pub report: bool,
+    pub error: Error,
     pub host: Host,
 }
 
@@ -62,7 +80,7 @@ pub enum Concern {
     Amd,
 }
 
-// The refusals 1 to 9, in the order of their numbers. A node alone gives those that need no segment.
+// The refusals 1 to 9 and 14, in the order of their numbers. A node alone gives those that need no segment.
 pub enum Refusal {
     BadIndex,
     Off,
@@ -73,6 +91,7 @@ pub enum Refusal {
     NotPermitted,
     HostWaiting,
     Malformed,
+    BadLinkState,
 }
 
 // What events answer: accepted, for a send with the frame that left, or one of document 01's refusals.

@@ -1,10 +1,11 @@
 // What waits at a node, and what the host may order to wait.
+use crate::Error;
 use crate::Host;
 use crate::Waiting;
 ghost use mathlib.Core.Path.{_≡_};
 ghost use mathlib.Core.Bool.{_||_};
 ghost use lib.Dec.{eqb};
-ghost use Rattle.state.specs.Rules.{hostWaits, noneWaiting, withReply, withAmd, withReport, withHost};
+ghost use Rattle.state.specs.Rules.{hostWaits, noneWaiting, withReply, withAmd, withReport, withError, withHost};
 
 impl Host {
     pub fn is_waiting(self) -> bool
@@ -40,6 +41,7 @@ impl Waiting {
             reply: false,
             amd: false,
             report: false,
+            error: Error::NoReport,
             host: Host::Empty,
         }
     }
@@ -65,13 +67,28 @@ impl Waiting {
         self
     }
 
-    pub fn with_host(self, h: Host) -> Waiting
-        ensures { λ r. ⌜ r ≡ withHost self h ⌝ }
+    pub fn with_error(self, e: Error) -> Waiting
+        ensures { λ r. ⌜ r ≡ withError self e ⌝ }
     {
+        let h = self.host;
         Waiting {
             reply: self.reply,
             amd: self.amd,
             report: self.report,
+            error: e,
+            host: h,
+        }
+    }
+
+    pub fn with_host(self, h: Host) -> Waiting
+        ensures { λ r. ⌜ r ≡ withHost self h ⌝ }
+    {
+        let e = self.error;
+        Waiting {
+            reply: self.reply,
+            amd: self.amd,
+            report: self.report,
+            error: e,
             host: h,
         }
     }

@@ -8,4 +8,5 @@ waiting-in-spec =
     (λ c κs. search needs)
     (λ c κs. search needs)
     (λ c κs. search needs)
-    (λ c. simp (c .flag2 .ensures, c .before .flag .ensures, c .before .before .reply-in .ensures)))
+    (λ c κs. search needs)
+    (λ c. simp (c .error-at .ensures, c .before .flag2 .ensures, c .before .before .flag .ensures, c .before .before .before .reply-in .ensures)))
