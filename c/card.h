@@ -1,7 +1,7 @@
 /* The proved operations of crates/card_api, for firmware, bus viewers and panels in C and C++.
  *
- * What an operation promises: it takes any operands and always returns; it answers 0 where it was accepted, else document 01's
- * refusal number (card_new, map_new: nothing; card_is_late: 0 or 1); and a refusal leaves table, map and every buffer as they
+ * What an operation promises: it takes any operands and always returns; it answers 0 where it was accepted, else the number of a
+ * refusal (card_new, map_new: nothing; card_is_late: 0 or 1); and a refusal leaves table, map and every buffer as they
  * were. card_look, card_inbox and all with a const table or map change no word of it.
  *
  * What the caller owes, since nothing here can test it:
@@ -37,24 +37,25 @@ extern "C" {
 /* The entries that a map has room for. */
 #define MAP_ENTRIES 64
 
-/* Document 01's refusals. 10 and 11 are given by the program `segment` alone. */
+/* The refusals of documents 01 and 02. 10 and 11 are given by the program `segment` alone. */
 enum {
-    CARD_REFUSED_BAD_INDEX = 1,     /* the index is above 23 */
-    CARD_REFUSED_OFF = 2,           /* the node is Off */
-    CARD_REFUSED_BAD_NODE_ID = 3,   /* the Node ID is 0 or has more than 48 bits */
-    CARD_REFUSED_NOTHING_DUE = 4,   /* the node has no due frame */
-    CARD_REFUSED_INBOX_FULL = 5,    /* an inbox that the frame would join is full */
-    CARD_REFUSED_INBOX_EMPTY = 6,   /* the inbox is empty, or has no frame at that place */
-    CARD_REFUSED_NOT_PERMITTED = 7, /* the node is not Permitted */
-    CARD_REFUSED_HOST_WAITING = 8,  /* a host frame waits already */
-    CARD_REFUSED_MALFORMED = 9,     /* an operand is out of range */
-    CARD_REFUSED_UNKNOWN = 10,      /* the command is unknown */
-    CARD_REFUSED_CUT_SHORT = 11,    /* the script ends within the command */
-    CARD_REFUSED_FULL = 12,         /* the map is full: 64 other entries remain */
-    CARD_REFUSED_ABSENT = 13        /* the map has no such entry */
+    CARD_REFUSED_BAD_INDEX = 1,      /* the index is above 23 */
+    CARD_REFUSED_OFF = 2,            /* the node is Off */
+    CARD_REFUSED_BAD_NODE_ID = 3,    /* the Node ID is 0 or has more than 48 bits */
+    CARD_REFUSED_NOTHING_DUE = 4,    /* the node has no due frame */
+    CARD_REFUSED_INBOX_FULL = 5,     /* an inbox that the frame would join is full */
+    CARD_REFUSED_INBOX_EMPTY = 6,    /* the inbox is empty, or has no frame at that place */
+    CARD_REFUSED_NOT_PERMITTED = 7,  /* the node is not Permitted */
+    CARD_REFUSED_HOST_WAITING = 8,   /* a host frame waits already */
+    CARD_REFUSED_MALFORMED = 9,      /* an operand is out of range */
+    CARD_REFUSED_UNKNOWN = 10,       /* the command is unknown */
+    CARD_REFUSED_CUT_SHORT = 11,     /* the script ends within the command */
+    CARD_REFUSED_FULL = 12,          /* the map is full: 64 other entries remain */
+    CARD_REFUSED_ABSENT = 13,        /* the map has no such entry */
+    CARD_REFUSED_BAD_LINK_STATE = 14 /* the link state is above 2 */
 };
 
-/* COMMANDS, as document 01 has them. The refusals of each are tested in the order given. */
+/* COMMANDS, as documents 01 and 02 have them. The refusals of each are tested in the order given. */
 
 /* All nodes Off. */
 void card_new(uint64_t table[CARD_WORDS]);
@@ -91,6 +92,12 @@ uint64_t card_enquiry(uint64_t table[CARD_WORDS], size_t index, uint8_t len, uin
 
 /* The node shall give up its alias. 1, 2, 7. */
 uint64_t card_release(uint64_t table[CARD_WORDS], size_t index);
+
+/* The host tells the node the state of its CAN link. A Permitted node reports most changes: an error report waits. 1, 2, 14. */
+uint64_t card_link(uint64_t table[CARD_WORDS], size_t index, uint8_t state);
+
+/* The link states. A node starts with the first at power-on, and keeps the one that it was told until then. */
+enum { CARD_LINK_ERROR_ACTIVE, CARD_LINK_ERROR_PASSIVE, CARD_LINK_BUS_OFF };
 
 /* LOOKING */
 

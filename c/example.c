@@ -130,12 +130,22 @@ static void fail_once(size_t exhibit) {
            seen(exhibit, CARD_SEEN_ALIAS), next[LCC_NEXT_ALIAS]);
 }
 
+/* The CAN controller says that the link has degraded: what the gallery's fault panel will see. */
+static void degrade(size_t exhibit) {
+    uint64_t parts[LCC_PARTS_WORDS];
+    card_link(table, exhibit, CARD_LINK_ERROR_PASSIVE);
+    lcc_read_header((uint32_t)seen(exhibit, CARD_SEEN_DUE_HEADER), parts);
+    printf("%6u ms  the link of exhibit %zu is Error Passive: %s %" PRIu64 " is due, %08" PRIX64 "\n", now, exhibit,
+           KINDS[parts[LCC_PARTS_KIND]], parts[LCC_PARTS_NUMBER], seen(exhibit, CARD_SEEN_DUE_HEADER));
+}
+
 /* Host orders, an alias that other equipment takes, a Node ID that is there twice, a send that fails. */
 static void work(void) {
     card_message(table, 3, 0x05B4, 2, UINT64_C(0xABCD000000000000));
     card_enquiry(table, 4, 6, node_id(5) << 16);
     printf("%6u ms  exhibit 3 has a message due, %08" PRIX64 "; exhibit 4 an enquiry, %08" PRIX64 "\n", now,
            seen(3, CARD_SEEN_DUE_HEADER), seen(4, CARD_SEEN_DUE_HEADER));
+    degrade(2);
     run(1);
     card_release(table, 7);
     foreign("the alias of exhibit 5", 1, 0x15B4, seen(5, CARD_SEEN_ALIAS), 0, 0);

@@ -111,6 +111,7 @@ static void while_off(void) {
     REFUSED(CARD_REFUSED_OFF, card_message(T, 0, 0xFFFF, 255, 0));
     REFUSED(CARD_REFUSED_OFF, card_enquiry(T, 0, 255, 0));
     REFUSED(CARD_REFUSED_OFF, card_release(T, 0));
+    REFUSED(CARD_REFUSED_OFF, card_link(T, 0, 255));
     REFUSED(CARD_REFUSED_INBOX_EMPTY, card_inbox(T, 0, 0, FRAME));
     ACCEPTED(card_foreign(T, 2, 0x7FF, 8, UINT64_MAX));
     look(23);
@@ -126,6 +127,7 @@ static void beyond_the_last(size_t index) {
     REFUSED(CARD_REFUSED_BAD_INDEX, card_message(T, index, 0xFFFF, 255, 0));
     REFUSED(CARD_REFUSED_BAD_INDEX, card_enquiry(T, index, 255, 0));
     REFUSED(CARD_REFUSED_BAD_INDEX, card_release(T, index));
+    REFUSED(CARD_REFUSED_BAD_INDEX, card_link(T, index, 255));
     REFUSED(CARD_REFUSED_BAD_INDEX, card_look(T, index, SEEN));
     REFUSED(CARD_REFUSED_BAD_INDEX, card_inbox(T, index, FAR, FRAME));
 }
@@ -185,6 +187,30 @@ static void orders(size_t index) {
     ACCEPTED(card_send(T, index, SENT));
     ACCEPTED(card_enquiry(T, index, 6, UINT64_MAX));
     ACCEPTED(card_send(T, index, SENT));
+}
+
+/* From one link state to another, and the header of the error report that is then due. */
+static void reports(size_t index, uint8_t from, uint8_t to, uint64_t header) {
+    ACCEPTED(card_link(T, index, from));
+    ACCEPTED(card_link(T, index, to));
+    look(index);
+    EXPECT(SEEN[CARD_SEEN_DUE_HEADER], header);
+    EXPECT(SEEN[CARD_SEEN_DUE_LEN], 6);
+    EXPECT(SEEN[CARD_SEEN_DUE_BYTES], ID << 16);
+}
+
+static void links(size_t index) {
+    REFUSED(CARD_REFUSED_BAD_LINK_STATE, card_link(T, index, 3));
+    REFUSED(CARD_REFUSED_BAD_LINK_STATE, card_link(T, index, 255));
+    reports(index, CARD_LINK_ERROR_ACTIVE, CARD_LINK_ERROR_PASSIVE, 0x10710263);
+    reports(index, CARD_LINK_BUS_OFF, CARD_LINK_ERROR_PASSIVE, 0x10711263);
+    reports(index, CARD_LINK_ERROR_PASSIVE, CARD_LINK_ERROR_ACTIVE, 0x10712263);
+    reports(index, CARD_LINK_BUS_OFF, CARD_LINK_ERROR_ACTIVE, 0x10713263);
+    ACCEPTED(card_send(T, index, SENT));
+    EXPECT(SENT[CARD_SENT_HEADER], 0x10713263);
+    REFUSED(CARD_REFUSED_NOTHING_DUE, card_send(T, index, SENT));
+    ACCEPTED(card_link(T, index, CARD_LINK_BUS_OFF));
+    REFUSED(CARD_REFUSED_NOTHING_DUE, card_send(T, index, SENT));
 }
 
 /* 32 frames in every inbox of two nodes; then no more; each at its place; then one less. */
@@ -289,6 +315,7 @@ int main(void) {
     malformed();
     bring_up(CARD_NODES - 1);
     orders(CARD_NODES - 1);
+    links(CARD_NODES - 1);
     inboxes(CARD_NODES - 1);
     ends(CARD_NODES - 1);
     maps();

@@ -11,7 +11,7 @@ use crate::paint::Paint;
 use crate::picture::{self, Record};
 use crate::play::{self, LIMIT};
 use crate::progress::Progress;
-use crate::script::{self, Fault};
+use crate::script::{self, Fault, Line};
 use crate::summary::Summary;
 use crate::usage::{Options, Wish, HELP};
 use crate::watch::{Moment, Watch};
@@ -31,10 +31,13 @@ const NAMED: usize = 10;
 pub fn fulfil(wish: &Wish) -> Result<Vec<u8>, Trouble> {
     match wish {
         Wish::Help => Ok(HELP.into()),
-        Wish::Hex(file) => Ok(listing::listing(&script_of(file)?.bytes).into()),
-        Wish::Names(file) => Ok(spell::script(&script_of(file)?.bytes).into()),
-        Wish::Bytes(file) => {
+        Wish::Hex(file) => Ok(listing::listing(&bytes_of(file)?.bytes).into()),
+        Wish::Names(file) => {
             let script = script_of(file)?;
+            Ok(spell::script(&script.bytes, &script.links).into())
+        }
+        Wish::Bytes(file) => {
+            let script = bytes_of(file)?;
             note_the_limit(&script);
             Ok(script.bytes)
         }
@@ -46,8 +49,20 @@ pub fn fulfil(wish: &Wish) -> Result<Vec<u8>, Trouble> {
     }
 }
 
-/// The bytes of a script that can be read and has no wrong line.
+/// What a script stands for.
 fn script_of(file: &Path) -> Result<Expanded, Trouble> {
+    lines_of(file).map(|lines| expand(&lines))
+}
+
+/// What a script stands for that is bytes alone.
+fn bytes_of(file: &Path) -> Result<Expanded, Trouble> {
+    let lines = lines_of(file)?;
+    script::in_bytes(&lines).map_err(|faults| Trouble::Script(faults_text(file, &faults)))?;
+    Ok(expand(&lines))
+}
+
+/// The lines of a script that can be read and has no wrong line.
+fn lines_of(file: &Path) -> Result<Vec<Line>, Trouble> {
     let mut bytes = Vec::new();
     let read = if is_standard_input(file) {
         io::stdin().read_to_end(&mut bytes).map(|_| ())
@@ -55,8 +70,8 @@ fn script_of(file: &Path) -> Result<Expanded, Trouble> {
         fs::read(file).map(|found| bytes = found)
     };
     read.map_err(|why| Trouble::Script(format!("cannot read {}: {why}", name_of(file))))?;
-    let lines = script::parse(&String::from_utf8_lossy(&bytes));
-    lines.map(|lines| expand(&lines)).map_err(|faults| Trouble::Script(faults_text(file, &faults)))
+    script::parse(&String::from_utf8_lossy(&bytes))
+        .map_err(|faults| Trouble::Script(faults_text(file, &faults)))
 }
 
 fn is_standard_input(file: &Path) -> bool {
@@ -94,13 +109,13 @@ fn note_the_limit(script: &Expanded) {
 
 fn run(script: &Expanded, file: &Path, options: &Options) -> Result<String, Trouble> {
     if *options == Options::default() {
-        return Ok(plain(&script.bytes));
+        return Ok(plain(script));
     }
     let paint = Paint(io::stdout().is_terminal() && std::env::var_os("NO_COLOR").is_none());
     let mut explain = Explain::new(paint);
     let (mut summary, mut record) = (Summary::default(), Record::default());
     let mut lines = String::new();
-    let card = watched(&script.bytes, |moment| {
+    let card = watched(script, |moment| {
         if options.explain {
             explain.note(moment);
         } else {
@@ -123,19 +138,21 @@ fn run(script: &Expanded, file: &Path, options: &Options) -> Result<String, Trou
 }
 
 /// The lines of a run, and nothing else.
-fn plain(script: &[u8]) -> String {
+fn plain(script: &Expanded) -> String {
     let mut card = Card::new();
     let mut text = String::new();
-    play::play(script, &mut card, |turn, _| text += &(play::line(turn) + "\n"));
+    play::play(&script.bytes, &script.links, &mut card, |turn, _| {
+        text += &(play::line(turn) + "\n")
+    });
     text + play::last_line(&card) + "\n"
 }
 
 /// Plays a script, and shows each moment of it; gives the card as it is left.
-fn watched(script: &[u8], mut show: impl FnMut(&Moment)) -> Card {
+fn watched(script: &Expanded, mut show: impl FnMut(&Moment)) -> Card {
     let mut card = Card::new();
     let mut watch = Watch::default();
-    let mut progress = Progress::new(play::used(script).len(), "bytes carried out");
-    play::play(script, &mut card, |turn, card| {
+    let mut progress = Progress::new(play::used(&script.bytes).len(), "bytes carried out");
+    play::play(&script.bytes, &script.links, &mut card, |turn, card| {
         progress.at(turn.at);
         show(&watch.look(turn, card));
     });

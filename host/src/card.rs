@@ -2,6 +2,7 @@
 
 use crate::command::Command;
 use crate::frame::Frame;
+use crate::link::Link;
 
 /// The nodes of a card, and the words of its table, as c/card.h has them.
 pub const PLACES: usize = 24;
@@ -21,6 +22,17 @@ pub enum Answer {
     /// An accepted send, with the frame that left.
     Sent(Frame),
     Refused(u64),
+}
+
+impl Answer {
+    /// What a number of the library says of a command that is no send.
+    fn of(number: u64) -> Answer {
+        if number == 0 {
+            Answer::Accepted
+        } else {
+            Answer::Refused(number)
+        }
+    }
 }
 
 /// The states of a node, in the order of their numbers in `card_look`.
@@ -112,11 +124,13 @@ impl Card {
                 Command::Release { index } => card_release(table, index.into()),
             }
         };
-        if number == 0 {
-            Answer::Accepted
-        } else {
-            Answer::Refused(number)
-        }
+        Answer::of(number)
+    }
+
+    /// Tells a node its link state.
+    pub fn link(&mut self, link: &Link) -> Answer {
+        // SAFETY: as in `carry_out`.
+        Answer::of(unsafe { card_link(self.table.as_mut_ptr(), link.index.into(), link.state) })
     }
 
     fn send(&mut self, index: u8) -> Answer {

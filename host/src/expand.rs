@@ -1,14 +1,17 @@
-//! The bytes that a script's lines stand for. `all` and `settle` go by what the card holds, so each command is carried out here.
+//! The bytes that a script's lines stand for, and the link orders beside them. `all` and `settle` go by what the card holds, so
+//! each command is carried out here.
 
 use crate::card::{Card, PLACES};
 use crate::command::{Command, Read};
+use crate::link::{Link, Placed};
 use crate::progress::Progress;
 use crate::script::{Item, Line};
 
-/// A script's bytes, and where each line's begin.
+/// A script's bytes, its link orders from first to last, and where each line's bytes begin.
 #[derive(Clone, Debug, Default)]
 pub struct Expanded {
     pub bytes: Vec<u8>,
+    pub links: Vec<Placed>,
     starts: Vec<(usize, usize)>,
 }
 
@@ -20,9 +23,9 @@ impl Expanded {
     }
 }
 
-/// The bytes of a script that was parsed.
+/// What a script that was parsed stands for.
 pub fn expand(lines: &[Line]) -> Expanded {
-    let mut expander = Expander { card: Card::new(), read: 0, ended: false, bytes: Vec::new() };
+    let mut expander = Expander::new();
     let mut starts = Vec::new();
     let mut progress = Progress::new(lines.len(), "lines turned to bytes");
     for (done, line) in lines.iter().enumerate() {
@@ -31,7 +34,7 @@ pub fn expand(lines: &[Line]) -> Expanded {
         expander.item(&line.item);
     }
     progress.end();
-    Expanded { bytes: expander.bytes, starts }
+    Expanded { bytes: expander.bytes, links: expander.links, starts }
 }
 
 struct Expander {
@@ -40,9 +43,14 @@ struct Expander {
     read: usize,
     ended: bool,
     bytes: Vec<u8>,
+    links: Vec<Placed>,
 }
 
 impl Expander {
+    fn new() -> Expander {
+        Expander { card: Card::new(), read: 0, ended: false, bytes: Vec::new(), links: Vec::new() }
+    }
+
     fn item(&mut self, item: &Item) {
         match item {
             Item::One(command) => self.command(command),
@@ -50,6 +58,7 @@ impl Expander {
             Item::DeliverAll => self.deliver_all(),
             Item::SendAll => self.send_all(),
             Item::Settle(count) => (0..*count).for_each(|_| self.settle()),
+            Item::Link(link) => self.link(*link),
             Item::Bytes(bytes) => {
                 self.bytes.extend(bytes);
                 self.carry_out();
@@ -60,6 +69,12 @@ impl Expander {
     fn command(&mut self, command: &Command) {
         command.write(&mut self.bytes);
         self.carry_out();
+    }
+
+    /// It comes after all bytes so far, which are whole commands: no other line can follow part of one.
+    fn link(&mut self, link: Link) {
+        self.card.link(&link);
+        self.links.push(Placed { at: self.bytes.len(), link });
     }
 
     /// For each node in order, as many deliveries as frames stand in its inbox.

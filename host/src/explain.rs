@@ -2,10 +2,12 @@
 
 use crate::card::{Answer, Seen, State, PLACES};
 use crate::command::{Command, Read};
-use crate::frame::Frame;
+use crate::frame::{Frame, Sort};
 use crate::hex::{dotted_id, joined};
+use crate::link::Link;
 use crate::paint::Paint;
-use crate::play;
+use crate::play::{self, Act};
+use crate::told::Told;
 use crate::watch::{Late, Moment};
 use crate::words;
 
@@ -97,21 +99,24 @@ impl Explain {
 
 /// What a command that is no tick did.
 fn meaning(moment: &Moment) -> String {
-    match (moment.turn.read, moment.turn.answer) {
-        (Read::Unknown, _) => {
-            format!("{:02X} is no command: {}", moment.turn.byte, words::refusal(10))
+    match (moment.turn.act, moment.turn.answer) {
+        (Act::Bytes(byte, Read::Unknown), _) => {
+            format!("{byte:02X} is no command: {}", words::refusal(10))
         }
-        (Read::Cut(size), _) => {
-            let byte = moment.turn.byte;
+        (Act::Bytes(byte, Read::Cut(size)), _) => {
             format!(
                 "command {byte:02X} has {size} bytes, and not all are there: {}",
                 words::refusal(11)
             )
         }
-        (Read::Whole(command, _), Answer::Refused(number)) => {
+        (Act::Bytes(_, Read::Whole(command, _)), Answer::Refused(number)) => {
             format!("{}: refused, {}", wanted(&command), words::refusal(number))
         }
-        (Read::Whole(command, _), _) => done(&command, moment),
+        (Act::Bytes(_, Read::Whole(command, _)), _) => done(&command, moment),
+        (Act::Link(link), Answer::Refused(number)) => {
+            format!("{}: refused, {}", told(&link), words::refusal(number))
+        }
+        (Act::Link(link), _) => format!("{}: {}", told(&link), linked(moment)),
     }
 }
 
@@ -174,6 +179,30 @@ fn done(command: &Command, moment: &Moment) -> String {
         }
         Command::Release { .. } => {
             format!("{}: {}{}", wanted(command), words::standing(after), now_due(after))
+        }
+    }
+}
+
+/// What a link order says.
+fn told(link: &Link) -> String {
+    format!("the host of node {} tells it link state {}", link.index, link.state_name())
+}
+
+/// What a link order that was accepted did. A frame that waits behind the due one cannot be seen.
+fn linked(moment: &Moment) -> String {
+    let Some(Told { index, due, .. }) = Told::of(moment) else { return String::new() };
+    let after = &moment.after[index];
+    match (due, after.due) {
+        (Some(frame), _) => format!("{} is due now", words::short(&frame)),
+        _ if after.state != State::Permitted => {
+            format!("the node is {}, and only remembers it", after.state.name())
+        }
+        (None, None) => "no frame is due".into(),
+        (None, Some(frame)) if matches!(frame.sort(), Some(Sort::ErrorReport(_))) => {
+            format!("{} stays due", words::short(&frame))
+        }
+        (None, Some(frame)) => {
+            format!("{} stays due, and what waits behind it cannot be seen", words::short(&frame))
         }
     }
 }

@@ -72,7 +72,7 @@ impl Sort {
 
     /// Whether frames of this sort carry a Node ID as their data.
     pub fn carries_id(self) -> bool {
-        matches!(self, Sort::Amd | Sort::Ame | Sort::Amr)
+        matches!(self, Sort::Amd | Sort::Ame | Sort::Amr | Sort::ErrorReport(_))
     }
 
     /// Its short name, without section and field.

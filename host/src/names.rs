@@ -3,10 +3,11 @@
 use crate::command::Command;
 use crate::frame::{Frame, Sort, ELEVEN_BIT, EXTENDED, REMOTE};
 use crate::hex::pairs;
+use crate::link::Link;
 use crate::script::{Fault, Item, Line, Source};
 
 /// The commands' names, each with its form.
-pub const FORMS: [(&str, &str); 11] = [
+pub const FORMS: [(&str, &str); 12] = [
     ("on", "on INDEX NODE-ID"),
     ("send", "send INDEX, or send all"),
     ("fail", "fail INDEX"),
@@ -16,6 +17,7 @@ pub const FORMS: [(&str, &str); 11] = [
     ("message", "message INDEX FIELD [DATA] [length N]"),
     ("enquiry", "enquiry INDEX [NODE-ID] [length N]"),
     ("release", "release INDEX"),
+    ("link", "link INDEX STATE"),
     ("settle", "settle COUNT"),
     ("bytes", "bytes HEX .."),
 ];
@@ -79,6 +81,7 @@ fn item(name: &str, words: &mut Words) -> Parsed<Item> {
         }
         "enquiry" => enquiry(words).map(Item::One),
         "release" => one(Command::Release { index: words.index()? }),
+        "link" => Ok(Item::Link(Link { index: words.index()?, state: words.link_state()? })),
         "settle" => Ok(Item::Settle(words.count()?)),
         _ => words.bytes().map(Item::Bytes),
     }
@@ -185,8 +188,6 @@ impl<'a> Words<'a> {
     }
 
     fn number(&mut self, what: &str, low: usize, high: usize) -> Parsed<usize> {
-        let decimal =
-            |word: &str| word.bytes().all(|c| c.is_ascii_digit()).then(|| word.parse().ok())?;
         let fits = |word: &str| decimal(word).filter(|number| (low..=high).contains(number));
         self.take(what, &format!("a whole number from {low} to {high}"), fits)
     }
@@ -194,6 +195,13 @@ impl<'a> Words<'a> {
     fn index(&mut self) -> Parsed<u8> {
         let number = self.number("index", 0, 255);
         number.map(|n| n as u8).map_err(|why| format!("{why}, the nodes being 0 to 23"))
+    }
+
+    /// By its name, or any number that an operand of the order can have.
+    fn link_state(&mut self) -> Parsed<u8> {
+        let number = |word: &str| decimal(word).and_then(|number| u8::try_from(number).ok());
+        let expected = "active, passive, off, or a whole number from 0 to 255";
+        self.take("link state", expected, |word| Link::state_of(word).or_else(|| number(word)))
     }
 
     fn count(&mut self) -> Parsed<usize> {
@@ -265,6 +273,10 @@ impl<'a> Words<'a> {
         }
         Ok(bytes)
     }
+}
+
+fn decimal(word: &str) -> Option<usize> {
+    word.bytes().all(|c| c.is_ascii_digit()).then(|| word.parse().ok())?
 }
 
 fn hex_number(word: &str) -> Option<u32> {

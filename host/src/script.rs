@@ -1,6 +1,7 @@
 //! A script's text: which of the two forms it has, and its lines, each with its number; or what is wrong with them.
 
 use crate::command::{Command, Read};
+use crate::link::Link;
 use crate::{hex, names};
 
 /// A line that has more than blanks and a comment, without the comment.
@@ -18,6 +19,7 @@ pub enum Item {
     DeliverAll,
     SendAll,
     Settle(usize),
+    Link(Link),
     Bytes(Vec<u8>),
 }
 
@@ -103,6 +105,16 @@ fn nothing_after_the_end(lines: &[Line]) -> Result<(), Vec<Fault>> {
         bytes.clear();
     }
     Ok(())
+}
+
+/// A script with a link order can be had by name alone, and the program cannot play it.
+pub fn in_bytes(lines: &[Line]) -> Result<(), Vec<Fault>> {
+    let Some(link) = lines.iter().find(|line| matches!(line.item, Item::Link(_))) else {
+        return Ok(());
+    };
+    let why = "link has no byte in a script, so neither hex nor the program can have it; \
+               play it with --explain, --summary or --picture";
+    Err(vec![Fault { line: link.number, why: why.into() }])
 }
 
 /// How bytes end a run, where they do.

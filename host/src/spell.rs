@@ -1,15 +1,28 @@
-//! Bytes back to commands by name: the lines from which `names` makes the same bytes again.
+//! Bytes and link orders back to commands by name: the lines from which `names` makes the same again.
 
 use crate::command::{Command, Read};
 use crate::frame::{Frame, Sort, ELEVEN_BIT, EXTENDED, REMOTE};
 use crate::hex::{dotted_id, joined};
+use crate::link::Placed;
 
 /// The greatest count of one `tick`, and how many bytes stand in one line of `bytes`.
 const TICKS: usize = 65_536;
 const BYTES: usize = 32;
 
-/// A script's bytes by name. Ticks in a row are one line; what is no whole command stands as bytes.
-pub fn script(bytes: &[u8]) -> String {
+/// A script by name. Each link order parts the bytes between two commands.
+pub fn script(bytes: &[u8], links: &[Placed]) -> String {
+    let mut text = String::new();
+    let mut from = 0;
+    for Placed { at, link } in links {
+        text += &commands(&bytes[from..*at]);
+        text += &format!("link {} {}\n", link.index, link.state_word());
+        from = *at;
+    }
+    text + &commands(&bytes[from..])
+}
+
+/// Bytes by name. Ticks in a row are one line; what is no whole command stands as bytes.
+fn commands(bytes: &[u8]) -> String {
     let mut text = String::new();
     let mut rest = bytes;
     while !rest.is_empty() {

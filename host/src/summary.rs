@@ -1,12 +1,15 @@
-//! The table at the end of a run: a row for each exhibit, its collisions, and whether the list was kept.
+//! The table at the end of a run: a row for each exhibit, collisions, link states that were told, and whether the list was kept.
 
 use crate::card::{Card, Seen, State, PLACES};
+use crate::command::Command;
+use crate::frame::{Frame, Sort};
 use crate::hex::dotted_id;
 use crate::paint::Paint;
+use crate::told::Told;
 use crate::watch::{Arrival, Late, Moment};
 use crate::words;
 
-/// Of collisions, so many are named one by one.
+/// Of collisions, and of link orders, so many are named one by one.
 const NAMED: usize = 10;
 
 /// When a node came to the alias that it has, and how often it started again.
@@ -49,6 +52,7 @@ impl Collision {
 pub struct Summary {
     rows: [Row; PLACES],
     collisions: Vec<Collision>,
+    links: Vec<Told>,
     commands: usize,
     refused: usize,
     ticks: usize,
@@ -63,6 +67,7 @@ impl Summary {
         self.ticks = moment.tick;
         self.frames += usize::from(moment.on_the_bus().is_some());
         self.collisions.extend(Collision::of(moment));
+        self.links.extend(Told::of(moment));
         self.late = self.late.or(moment.late);
         for (index, row) in self.rows.iter_mut().enumerate() {
             let (before, after) = (moment.before[index].state, moment.after[index].state);
@@ -70,7 +75,7 @@ impl Summary {
                 *row = Row { restarts: row.restarts + 1, ..Row::default() };
             } else if moment.node() == Some(index)
                 && after == State::Testing
-                && moment.turn.byte == 1
+                && matches!(moment.command(), Some(Command::On { .. }))
             {
                 *row = Row::default();
             }
@@ -93,6 +98,7 @@ impl Summary {
         }
         text += &format!("\n{}\n", totals(&seen));
         text += &self.collisions_text();
+        text += &self.links_text();
         let (commands, refused) =
             (words::count(self.commands, "command", "commands"), self.refused);
         let (ticks, frames) = (words::count(self.ticks, "tick", "ticks"), self.frames);
@@ -118,7 +124,7 @@ impl Summary {
             at(row.reserved),
             at(row.permitted),
             cell(row.restarts.to_string()),
-            seen.due.map_or_else(none, |frame| words::short(&frame)),
+            seen.due.map_or_else(none, |frame| due(&frame)),
             cell(seen.inbox.to_string()),
         ]);
         let line = match seen.state {
@@ -135,14 +141,18 @@ impl Summary {
         if count == 0 {
             return "No collisions.\n".into();
         }
-        let mut text = format!("{}:\n", words::count(count, "collision", "collisions"));
-        for collision in self.collisions.iter().take(NAMED) {
-            text += &format!("  {}\n", collision.words());
+        let head = words::count(count, "collision", "collisions");
+        named(&head, self.collisions.iter().map(Collision::words))
+    }
+
+    /// Where no node was told its link state there is nothing to say.
+    fn links_text(&self) -> String {
+        let count = self.links.len();
+        if count == 0 {
+            return String::new();
         }
-        if count > NAMED {
-            text += &format!("  and {} more\n", count - NAMED);
-        }
-        text
+        let head = format!("{} told", words::count(count, "link state was", "link states were"));
+        named(&head, self.links.iter().map(Told::words))
     }
 
     fn verdict(&self, paint: Paint) -> String {
@@ -150,6 +160,27 @@ impl Summary {
             Some(late) => paint.red(&words::late(late)),
             None => paint.green(&format!("kept: {}", words::KEPT)),
         }
+    }
+}
+
+/// The first of some things that happened, each in a line.
+fn named(head: &str, all: impl ExactSizeIterator<Item = String>) -> String {
+    let count = all.len();
+    let mut text = format!("{head}:\n");
+    for words in all.take(NAMED) {
+        text += &format!("  {words}\n");
+    }
+    if count > NAMED {
+        text += &format!("  and {} more\n", count - NAMED);
+    }
+    text
+}
+
+/// A due frame in the little room of its cell.
+fn due(frame: &Frame) -> String {
+    match frame.sort() {
+        Some(Sort::ErrorReport(number)) => format!("error {number}"),
+        _ => words::short(frame),
     }
 }
 

@@ -3,9 +3,10 @@
 use std::collections::VecDeque;
 
 use crate::card::{Answer, Card, Seen, State, PLACES};
-use crate::command::{Command, Read};
+use crate::command::Command;
 use crate::frame::{Frame, Sort};
-use crate::play::Turn;
+use crate::link::Link;
+use crate::play::{Act, Turn};
 
 /// Who put a frame on the bus.
 #[derive(Clone, Copy, Debug, PartialEq, Eq)]
@@ -71,9 +72,13 @@ pub struct Moment {
 
 impl Moment {
     pub fn command(&self) -> Option<Command> {
-        match self.turn.read {
-            Read::Whole(command, _) => Some(command),
-            Read::Unknown | Read::Cut(_) => None,
+        self.turn.command()
+    }
+
+    pub fn link(&self) -> Option<Link> {
+        match self.turn.act {
+            Act::Link(link) => Some(link),
+            Act::Bytes(..) => None,
         }
     }
 
@@ -83,7 +88,11 @@ impl Moment {
 
     /// The node that the command names, where there is such a node.
     pub fn node(&self) -> Option<usize> {
-        self.command()?.index().map(usize::from).filter(|&index| index < PLACES)
+        let index = match self.link() {
+            Some(link) => Some(link.index),
+            None => self.command()?.index(),
+        };
+        index.map(usize::from).filter(|&index| index < PLACES)
     }
 
     /// The frame that came onto the bus, and from whom.
@@ -137,7 +146,7 @@ impl Watch {
     pub fn look(&mut self, turn: &Turn, card: &Card) -> Moment {
         let after = card.look_at_all();
         let before = std::mem::replace(&mut self.seen, after);
-        self.tick += usize::from(matches!(turn.read, Read::Whole(Command::Tick, _)));
+        self.tick += usize::from(turn.command() == Some(Command::Tick));
         let mut moment =
             Moment { turn: *turn, tick: self.tick, before, after, delivered: None, late: None };
         moment.delivered = self.inboxes(&moment, card);

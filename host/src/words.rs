@@ -24,12 +24,25 @@ pub fn frame(frame: &Frame) -> String {
     let alias = format!("alias {:03X}", frame.alias());
     match sort {
         Sort::Cid(number, section) => format!("CID {number}, {alias}, section {section:03X}{data}"),
+        Sort::ErrorReport(number) => {
+            format!("error report {number} ({}), {alias}{data}", link_change(number))
+        }
         Sort::Reserved(field) => format!("reserved frame {field:04X}, {alias}{data}"),
         Sort::Message(field) if frame.is_duplicate_report() => {
             format!("message {field:04X}, {alias}, the report of a duplicate Node ID")
         }
         Sort::Message(field) => format!("message {field:04X}, {alias}{data}"),
         _ => format!("{}, {alias}{data}", sort.name()),
+    }
+}
+
+/// What error report 0 to 3 says of its sender's link, by section 6.2.7 of the standard.
+fn link_change(number: u8) -> &'static str {
+    match number {
+        0 => "Error Passive after Error Active",
+        1 => "Error Passive after Bus Off",
+        2 => "Error Active after Error Passive",
+        _ => "Error Active after Bus Off",
     }
 }
 
@@ -108,6 +121,7 @@ pub fn refusal(number: u64) -> &'static str {
         9 => "an operand is out of range",
         10 => "the command is unknown, and the run ends",
         11 => "the script ends within the command, and the run ends",
+        14 => "the link state is above 2",
         _ => "no reason is known for this number",
     }
 }

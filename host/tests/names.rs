@@ -2,12 +2,20 @@
 
 mod random;
 
-use lcc::expand::expand;
+use lcc::expand::{expand, Expanded};
+use lcc::link::{Link, Placed};
 use lcc::{listing, script, spell};
 use random::Random;
 
+fn expanded(text: &str) -> Expanded {
+    expand(&script::parse(text).unwrap_or_else(|faults| panic!("{faults:?} in\n{text}")))
+}
+
+/// The bytes of a script that has no link order.
 fn bytes_of(text: &str) -> Vec<u8> {
-    expand(&script::parse(text).unwrap_or_else(|faults| panic!("{faults:?} in\n{text}"))).bytes
+    let Expanded { bytes, links, .. } = expanded(text);
+    assert_eq!(links, [], "{text}");
+    bytes
 }
 
 /// By name to bytes, those to hex and by name again, and both to the same bytes.
@@ -17,10 +25,10 @@ fn ten_thousand_random_scripts_there_and_back() {
     for seed in 0..10_000 {
         let text = random::script(&mut Random::new(seed));
         let bytes = bytes_of(&text);
-        let (hex, names) = (listing::listing(&bytes), spell::script(&bytes));
+        let (hex, names) = (listing::listing(&bytes), spell::script(&bytes, &[]));
         assert_eq!(bytes_of(&hex), bytes, "in hex, seed {seed}:\n{text}");
         assert_eq!(bytes_of(&names), bytes, "by name, seed {seed}:\n{text}");
-        assert_eq!(spell::script(&bytes_of(&names)), names, "seed {seed}");
+        assert_eq!(spell::script(&bytes_of(&names), &[]), names, "seed {seed}");
         bytes_seen += bytes.len();
         ends_seen += usize::from(names.contains("bytes"));
     }
@@ -35,9 +43,80 @@ fn random_bytes_there_and_back() {
         let length = random.below(60);
         let byte = |random: &mut Random| if random.below(3) > 0 { random.below(11) } else { random.below(256) } as u8;
         let bytes: Vec<u8> = (0..length).map(|_| byte(&mut random)).collect();
-        assert_eq!(bytes_of(&spell::script(&bytes)), bytes, "by name: {bytes:02X?}");
+        assert_eq!(bytes_of(&spell::script(&bytes, &[])), bytes, "by name: {bytes:02X?}");
         assert_eq!(bytes_of(&listing::listing(&bytes)), bytes, "in hex: {bytes:02X?}");
     }
+}
+
+/// Scripts with link orders by name, and by name again: the same bytes, and the same link orders at the same places.
+#[test]
+fn ten_thousand_random_scripts_with_link_orders_there_and_back() {
+    let (mut links_seen, mut inner) = (0, 0);
+    for seed in 0..10_000 {
+        let text = random::script_with(&random::LINKS, &mut Random::new(seed));
+        let there = expanded(&text);
+        let names = spell::script(&there.bytes, &there.links);
+        let back = expanded(&names);
+        assert_eq!(
+            (&back.bytes, &back.links),
+            (&there.bytes, &there.links),
+            "seed {seed}:\n{text}"
+        );
+        assert_eq!(spell::script(&back.bytes, &back.links), names, "seed {seed}");
+        assert_eq!(
+            script::in_bytes(&script::parse(&text).expect("it is right")).is_ok(),
+            there.links.is_empty()
+        );
+        links_seen += there.links.len();
+        inner +=
+            there.links.iter().filter(|link| (1..there.bytes.len()).contains(&link.at)).count();
+    }
+    assert!(
+        links_seen > 50_000 && inner > 40_000,
+        "{links_seen} link orders, {inner} between bytes"
+    );
+}
+
+/// A link state by its name or its number, and how `names` prints it.
+#[test]
+fn link_states_have_names_and_numbers() {
+    let lines = [
+        ("link 0 active", 0, 0, "link 0 active\n"),
+        ("link 0 0", 0, 0, "link 0 active\n"),
+        ("Link 23 PASSIVE", 23, 1, "link 23 passive\n"),
+        ("link 7 1", 7, 1, "link 7 passive\n"),
+        ("link 24 off", 24, 2, "link 24 off\n"),
+        ("link 255 2", 255, 2, "link 255 off\n"),
+        ("link 007 003", 7, 3, "link 7 3\n"),
+        ("link 0 255", 0, 255, "link 0 255\n"),
+    ];
+    for (line, index, state, printed) in lines {
+        let Expanded { bytes, links, .. } = expanded(line);
+        assert_eq!(links, [Placed { at: 0, link: Link { index, state } }], "{line}");
+        assert_eq!(bytes, [], "{line}");
+        assert_eq!(spell::script(&bytes, &links), printed);
+    }
+}
+
+/// A link order stands before the byte that follows it, and parts a row of ticks.
+#[test]
+fn link_orders_stand_between_the_bytes() {
+    let text = "link 0 off\non 0 05.01.01.01.01.01\nlink 0 passive\nlink 1 9\ntick 3\nlink 0 off\ntick\nlink 0 active\n";
+    let Expanded { bytes, links, .. } = expanded(text);
+    assert_eq!(bytes, bytes_of("on 0 05.01.01.01.01.01\ntick 4"));
+    assert_eq!(links.iter().map(|link| link.at).collect::<Vec<_>>(), [0, 8, 8, 11, 12]);
+    assert_eq!(spell::script(&bytes, &links), text);
+}
+
+/// In a script that is to be bytes, the first link order is a line that cannot be.
+#[test]
+fn link_orders_have_no_byte() {
+    let parsed = |text| script::parse(text).expect("it is right");
+    let faults = script::in_bytes(&parsed("tick\nlink 0 off\n\ntick\nlink 9 9\n"));
+    let faults = faults.expect_err("two link orders");
+    assert_eq!((faults[0].line, faults.len()), (2, 1));
+    assert!(faults[0].why.starts_with("link has no byte in a script"), "{}", faults[0].why);
+    assert_eq!(script::in_bytes(&parsed("tick\nsend all\nbytes FF")), Ok(()));
 }
 
 /// Each command's form, and the bytes that document 01 gives it.
@@ -91,8 +170,18 @@ fn all_goes_by_what_the_card_holds() {
     assert_eq!(by_hand("settle 2"), by_hand(&format!("send 0\nsend 2\ntick\n{tick}")));
 }
 
+/// A link order counts for what the card holds: `send all` sends the error report that is due by it.
+#[test]
+fn all_goes_by_link_orders_too() {
+    let up = "on 2 05.01.01.01.01.01\nsettle 206\n";
+    let by_all = expanded(&format!("{up}link 2 passive\nsend all\n"));
+    let by_hand = expanded(&format!("{up}link 2 passive\nsend 2\n"));
+    assert_eq!((by_all.bytes, by_all.links), (by_hand.bytes, by_hand.links));
+    assert_eq!(bytes_of(&format!("{up}send all\n")), bytes_of(up));
+}
+
 /// Lines that are wrong, and what is said of each.
-const WRONG: [(&str, &str); 46] = [
+const WRONG: [(&str, &str); 54] = [
     ("sned 0", "\"sned\" is no command; expected one of on, send"),
     ("on", "the index is missing; expected a whole number from 0 to 255"),
     ("on 0", "the Node ID is missing; expected six bytes in hex, as 05.01.01.01.01.01"),
@@ -139,6 +228,17 @@ const WRONG: [(&str, &str); 46] = [
     ("message 0 15B4 0", "\"0\" is no data"),
     ("enquiry 0 0501", "\"0501\" is no Node ID"),
     ("release", "the index is missing"),
+    ("link", "the index is missing"),
+    (
+        "link 0",
+        "the link state is missing; expected active, passive, off, or a whole number from 0 to 255",
+    ),
+    ("link 0 busy", "\"busy\" is no link state; expected active, passive, off, or a whole number"),
+    ("link 0 256", "\"256\" is no link state"),
+    ("link 0 -1", "\"-1\" is no link state"),
+    ("link 0 99999999999999999999999", "is no link state"),
+    ("link off 0", "\"off\" is no index"),
+    ("link 0 off 1", "\"1\" is too much; the form is: link INDEX STATE"),
     ("bytes", "the first byte is missing"),
     ("bytes F", "\"F\" is no first byte; expected bytes of two hex digits"),
     ("bytes FF é", "\"é\" is no byte"),
@@ -184,6 +284,21 @@ fn nothing_follows_bytes_that_end_the_run() {
     );
 }
 
+/// A link order follows no bytes that end the run, and stands within no command that bytes have begun.
+#[test]
+fn no_link_order_follows_part_of_a_command() {
+    let faults = |text| script::parse(text).expect_err("bytes are open");
+    let after_the_end = faults("tick\nbytes 05 FF\nlink 0 off\n");
+    assert_eq!((after_the_end[0].line, after_the_end.len()), (3, 1));
+    assert!(after_the_end[0].why.contains("have the unknown command FF"), "{after_the_end:?}");
+    let within = faults("bytes 01 00\nlink 0 off\nbytes 05 01 01 01 01 01\n");
+    assert_eq!((within[0].line, within.len()), (2, 1));
+    let why = "the bytes from line 1 on end after 2 of the 8 bytes of command 01";
+    assert!(within[0].why.contains(why), "{within:?}");
+    let whole = expanded("bytes 01 00\nbytes 05 01 01 01 01 01\nlink 0 off\nbytes 05\n");
+    assert_eq!((whole.links[0].at, whole.links.len(), whole.bytes.len()), (8, 1, 9));
+}
+
 #[test]
 fn wrong_lines_in_hex() {
     let wrong = [
@@ -219,6 +334,7 @@ fn forms_are_told_apart() {
         ("05\n05\nsend 0", Hex),
         ("\u{FEFF}05\r\n", Hex),
         ("send 0 # 05 05", Names),
+        ("link 0 off\n05", Names),
     ];
     for (text, form) in forms {
         assert_eq!(script::form_of(&script::sources(text)), form, "{text:?}");
@@ -230,7 +346,7 @@ fn forms_are_told_apart() {
 fn any_text_is_read_or_refused() {
     let words = [
         "on", "send", "foreign", "AMD", "CID", "all", "length", "0", "7", "263", "05.01", "FF",
-        "é", "#", "\n", "bytes", "-1", ".",
+        "é", "#", "\n", "bytes", "-1", ".", "link", "off",
     ];
     let mut random = Random::new(7);
     let (mut read, mut refused) = (0, 0);

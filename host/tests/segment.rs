@@ -1,4 +1,4 @@
-//! The tool and the program `segment` print the same, line by line.
+//! The tool and the program `segment` print the same, line by line. Link orders are the tool's alone.
 
 mod random;
 
@@ -8,6 +8,7 @@ use std::path::{Path, PathBuf};
 use std::process::{Command, Stdio};
 
 use lcc::actions::fulfil;
+use lcc::script::{self, Item};
 use lcc::usage::{Options, Wish};
 use random::Random;
 
@@ -33,23 +34,35 @@ fn segment(bytes: &[u8]) -> String {
     String::from_utf8(output.stdout).expect("it prints text")
 }
 
+/// A file of this name for one test alone.
+fn written(name: &str, text: &str) -> PathBuf {
+    let file = Path::new(env!("CARGO_TARGET_TMPDIR")).join(name);
+    fs::write(&file, text).expect("the folder can be written");
+    file
+}
+
 fn text(file: &Path, options: Options) -> String {
     let printed = fulfil(&Wish::Run(file.into(), options)).expect("it runs");
     String::from_utf8(printed).expect("it prints text")
 }
 
-/// The tool's lines for a file, with each option and without; the program's for the file's bytes.
+/// The tool's lines for a file are the program's for the file's bytes.
 fn same(file: &Path) {
-    let name = file.display();
     let expected = segment(&fulfil(&Wish::Bytes(file.into())).expect("it has bytes"));
-    let plain = text(file, Options::default());
-    assert!(plain == expected, "lcc run {name} prints other lines than segment");
+    assert!(lines(file) == expected, "lcc run {} prints other lines than segment", file.display());
+}
+
+/// The tool's lines for a file, which are the same with each option and without.
+fn lines(file: &Path) -> String {
+    let name = file.display();
+    let expected = text(file, Options::default());
     let picture = Some(file.with_extension("svg").file_name().expect("it has a name").into());
     let picture = picture.map(|name: PathBuf| Path::new(env!("CARGO_TARGET_TMPDIR")).join(name));
     let drawn = text(file, Options { summary: true, picture, ..Options::default() });
     assert!(drawn.starts_with(&expected), "lcc run {name} --summary --picture prints other lines");
     let explained = unfolded(&text(file, Options { explain: true, ..Options::default() }));
     assert!(explained == expected, "lcc run {name} --explain explains other lines");
+    expected
 }
 
 /// The lines of an explanation without their words, and ticks in a row each on its own line.
@@ -68,30 +81,86 @@ fn unfolded(explained: &str) -> String {
     lines
 }
 
+/// Whether a script has a link order, so that the program cannot play it.
+fn has_a_link_order(file: &Path) -> bool {
+    let text = fs::read_to_string(file).expect("it can be read");
+    let parsed = script::parse(&text).expect("it is right");
+    parsed.iter().any(|line| matches!(line.item, Item::Link(_)))
+}
+
 #[test]
 fn examples() {
-    let mut count = 0;
+    let (mut through_both, mut through_the_tool) = (0, 0);
     for entry in fs::read_dir(root().join("examples")).expect("there are examples") {
-        same(&entry.expect("it can be read").path());
-        count += 1;
+        let file = entry.expect("it can be read").path();
+        if has_a_link_order(&file) {
+            assert!(lines(&file).contains(" link ok\n"), "{} tells no node", file.display());
+            through_the_tool += 1;
+        } else {
+            same(&file);
+            through_both += 1;
+        }
     }
-    assert!(count >= 6, "{count} examples");
+    assert!(
+        through_both >= 6 && through_the_tool >= 1,
+        "{through_both} examples through both, {through_the_tool} through the tool alone"
+    );
+}
+
+/// The lines of a run without those of link orders, counted anew.
+fn without_links(lines: &str) -> String {
+    let others = lines.lines().filter(|line| !line.contains(" link "));
+    let counted = others.enumerate().map(|(at, line)| match line.split_once(' ') {
+        Some((_, rest)) => format!("{} {rest}\n", at + 1),
+        None => format!("{line}\n"),
+    });
+    counted.collect()
+}
+
+/// Link orders that are refused leave the program's lines as they are, and only count.
+#[test]
+fn refused_link_orders_change_no_other_line() {
+    let mut links = 0;
+    for seed in 0..SCRIPTS {
+        let text = random::script_with(&random::REFUSED_LINKS, &mut Random::new(2_000_000 + seed));
+        let played = lines(&written("refused.lcc", &text));
+        let others: String = text
+            .lines()
+            .filter(|line| !line.starts_with("link"))
+            .map(|line| format!("{line}\n"))
+            .collect();
+        let bytes = fulfil(&Wish::Bytes(written("others.lcc", &others))).expect("it has bytes");
+        assert_eq!(without_links(&played), segment(&bytes), "seed {seed}:\n{text}");
+        links += played.matches(" link refused ").count();
+    }
+    assert!(links > 1_000, "{links} link orders");
+}
+
+/// Link orders of every sort: the lines are the same with each option and without.
+#[test]
+fn random_scripts_with_link_orders() {
+    let (mut accepted, mut reports) = (0, 0);
+    for seed in 0..SCRIPTS {
+        let up = "on 0 050101010101\non 1 050101010102\nsettle 206\n";
+        let text = random::script_with(&random::LINKS, &mut Random::new(3_000_000 + seed));
+        let played = lines(&written("linked.lcc", &format!("{up}{text}")));
+        accepted += played.matches(" link ok\n").count();
+        reports += played.matches(" 02 ok 1071").count();
+    }
+    assert!(accepted > 1_000 && reports > 100, "{accepted} link orders, {reports} error reports");
 }
 
 #[test]
 fn random_scripts() {
-    let file = Path::new(env!("CARGO_TARGET_TMPDIR")).join("random.lcc");
     for seed in 0..SCRIPTS {
         let text = random::script(&mut Random::new(1_000_000 + seed));
-        fs::write(&file, text).expect("the folder can be written");
-        same(&file);
+        same(&written("random.lcc", &text));
     }
 }
 
 /// Around the limit of 65,536 bytes, with a command that it cuts and with one that it does not.
 #[test]
 fn the_limit() {
-    let file = Path::new(env!("CARGO_TARGET_TMPDIR")).join("limit.lcc");
     for text in [
         "tick 65535\n",
         "tick 65536\n",
@@ -99,10 +168,8 @@ fn the_limit() {
         "tick 65535\nsend 0\n",
         "tick 65534\nsend 0\n",
     ] {
-        fs::write(&file, format!("{text}send 0\n")).expect("the folder can be written");
-        same(&file);
+        same(&written("limit.lcc", &format!("{text}send 0\n")));
     }
-    fs::write(&file, format!("on 0 050101010101\n{}", "message 0 15B4 01\n".repeat(6_000)))
-        .expect("it can be written");
-    same(&file);
+    let messages = "message 0 15B4 01\n".repeat(6_000);
+    same(&written("limit.lcc", &format!("on 0 050101010101\n{messages}")));
 }

@@ -164,41 +164,49 @@ fn long_scripts_are_explained() {
     );
 }
 
-/// A message of field 15B4 is a report by its data alone, and six bytes are a Node ID only in AMD, AME and AMR.
+/// Foreign frames, and what is said of each.
+const FRAMES: [(&str, &str); 20] = [
+    ("foreign message 15B4 263 01010000000201", "the report of a duplicate Node ID"),
+    (
+        "foreign message 15B4 263 01010000000202",
+        "message 15B4, alias 263, data 01.01.00.00.00.02.02:",
+    ),
+    ("foreign message 15B4 263", "message 15B4, alias 263: it joins"),
+    (
+        "foreign message 05B4 263 01010000000201",
+        "message 05B4, alias 263, data 01.01.00.00.00.02.01:",
+    ),
+    ("foreign message 15B4 263 010203040506", "message 15B4, alias 263, data 01.02.03.04.05.06:"),
+    ("foreign AMD 263 010203040506", "AMD, alias 263, Node ID 01.02.03.04.05.06:"),
+    ("foreign AMD 263 0102030405", "AMD, alias 263, data 01.02.03.04.05:"),
+    ("foreign AME 263 01020304050607", "AME, alias 263, data 01.02.03.04.05.06.07:"),
+    ("foreign RID 263 010203040506", "RID, alias 263, data 01.02.03.04.05.06:"),
+    ("foreign CID 7 263 050", "CID 7, alias 263, section 050:"),
+    ("foreign remote 10701263", "remote frame 10701263:"),
+    ("foreign short 123", "eleven-bit frame 123:"),
+    ("foreign 10704263", "reserved frame 0704, alias 263:"),
+    (
+        "foreign error 0 263 010203040506",
+        "error report 0 (Error Passive after Error Active), alias 263, Node ID 01.02.03.04.05.06:",
+    ),
+    (
+        "foreign error 1 263 0102",
+        "error report 1 (Error Passive after Bus Off), alias 263, data 01.02:",
+    ),
+    ("foreign error 2 263", "error report 2 (Error Active after Error Passive), alias 263:"),
+    ("foreign error 3 263", "error report 3 (Error Active after Bus Off), alias 263:"),
+    ("foreign 00700263", "RID, alias 263:"),
+    ("foreign FFFFFFFF", "frame FFFFFFFF, above 29 bits: refused, an operand is out of range"),
+    (
+        "foreign 10701263 01 length 9",
+        "AMD, alias 263, length 9: refused, an operand is out of range",
+    ),
+];
+
+/// A message of field 15B4 is a report by its data alone, and six bytes are a Node ID only in AMD, AME, AMR and error reports.
 #[test]
 fn frames_are_told_by_what_they_carry() {
-    let frames = [
-        ("foreign message 15B4 263 01010000000201", "the report of a duplicate Node ID"),
-        (
-            "foreign message 15B4 263 01010000000202",
-            "message 15B4, alias 263, data 01.01.00.00.00.02.02:",
-        ),
-        ("foreign message 15B4 263", "message 15B4, alias 263: it joins"),
-        (
-            "foreign message 05B4 263 01010000000201",
-            "message 05B4, alias 263, data 01.01.00.00.00.02.01:",
-        ),
-        (
-            "foreign message 15B4 263 010203040506",
-            "message 15B4, alias 263, data 01.02.03.04.05.06:",
-        ),
-        ("foreign AMD 263 010203040506", "AMD, alias 263, Node ID 01.02.03.04.05.06:"),
-        ("foreign AMD 263 0102030405", "AMD, alias 263, data 01.02.03.04.05:"),
-        ("foreign AME 263 01020304050607", "AME, alias 263, data 01.02.03.04.05.06.07:"),
-        ("foreign RID 263 010203040506", "RID, alias 263, data 01.02.03.04.05.06:"),
-        ("foreign CID 7 263 050", "CID 7, alias 263, section 050:"),
-        ("foreign remote 10701263", "remote frame 10701263:"),
-        ("foreign short 123", "eleven-bit frame 123:"),
-        ("foreign 10704263", "reserved frame 0704, alias 263:"),
-        ("foreign error 2 263", "error report 2, alias 263:"),
-        ("foreign 00700263", "RID, alias 263:"),
-        ("foreign FFFFFFFF", "frame FFFFFFFF, above 29 bits: refused, an operand is out of range"),
-        (
-            "foreign 10701263 01 length 9",
-            "AMD, alias 263, length 9: refused, an operand is out of range",
-        ),
-    ];
-    for (frame, words) in frames {
+    for (frame, words) in FRAMES {
         let text = explained(&format!("on 0 05.01.01.01.01.01\n{frame}\n"));
         let line = text.lines().nth(1).expect("two commands").to_string();
         assert!(line.contains(words), "{frame}: {line}");
@@ -245,6 +253,121 @@ fn deliveries_have_their_effects() {
         ),
         "{text}"
     );
+}
+
+/// Link orders to node 0, which is Permitted, and what is said of the last.
+const TOLD: [(&str, &str); 15] = [
+    ("link 0 passive", "link state Error Passive: error report 0 is due now"),
+    ("link 0 off", "link state Bus Off: no frame is due"),
+    ("link 0 active", "link state Error Active: no frame is due"),
+    ("link 0 off\nlink 0 passive", "link state Error Passive: error report 1 is due now"),
+    ("link 0 passive\nlink 0 active", "link state Error Active: error report 2 is due now"),
+    ("link 0 off\nlink 0 active", "link state Error Active: error report 3 is due now"),
+    ("link 0 passive\nlink 0 off", "link state Bus Off: error report 0 stays due"),
+    ("message 0 15B4\nlink 0 passive", "error report 0 is due now"),
+    ("message 0 15B4\nlink 0 off", "message stays due, and what waits behind it cannot be seen"),
+    (
+        "foreign CID 7 263\ndeliver 0\nlink 0 passive",
+        "RID stays due, and what waits behind it cannot be seen",
+    ),
+    ("release 0\nlink 0 passive", "the node is Leaving, and only remembers it"),
+    ("on 0 050101010101\nlink 0 2", "the node is Testing, and only remembers it"),
+    (
+        "link 24 off",
+        "the host of node 24 tells it link state Bus Off: refused, the index is above 23",
+    ),
+    ("link 1 3", "the host of node 1 tells it link state 3: refused, the node is Off"),
+    ("link 0 3", "the host of node 0 tells it link state 3: refused, the link state is above 2"),
+];
+
+#[test]
+fn link_orders_are_explained_by_what_is_seen() {
+    for (orders, words) in TOLD {
+        let text = explained(&format!("{PERMITTED}{orders}\n"));
+        let line = text.lines().rev().nth(1).expect("a link order").to_string();
+        assert!(line.contains(" link ") && line.ends_with(words), "{orders}: {line}");
+    }
+    let text = explained(&format!("{PERMITTED}link 0 passive\nsend 0\n"));
+    let words = "node 0 sends error report 0 (Error Passive after Error Active), alias 263, \
+                 Node ID 05.01.01.01.01.01: it joins no inbox\n";
+    assert!(text.contains(words), "{text}");
+}
+
+/// The lines of link orders have their name for a byte; the rest is as ever.
+#[test]
+fn link_orders_are_played() {
+    let script =
+        "link 0 off\non 0 05.01.01.01.01.01\nlink 0 3\nlink 0 passive\nlink 24 3\ntick\nsend 0\n";
+    let lines = "1 link refused 2\n2 01 ok\n3 link refused 14\n4 link ok\n5 link refused 1\n6 05 ok\n7 02 ok 17050263\nkept\n";
+    let output = lcc(&["run", "-"], script);
+    assert_eq!((output.status.code(), out(&output).as_str()), (Some(0), lines));
+    let orders = "link 0 passive\nsend 0\nlink 0 off\nsend 0\nlink 0 active\nsend 0\n";
+    let text = out(&lcc(&["run", "-"], &format!("{PERMITTED}{orders}")));
+    let last: Vec<&str> =
+        text.lines().rev().take(7).map(|l| l.split_once(' ').map_or(l, |(_, rest)| rest)).collect();
+    let expected = [
+        "kept",
+        "02 ok 10713263 050101010101",
+        "link ok",
+        "02 refused 4",
+        "link ok",
+        "02 ok 10710263 050101010101",
+        "link ok",
+    ];
+    assert_eq!(last, expected);
+}
+
+/// What has no byte is not turned into bytes: nothing is printed, and what would be right is said.
+#[test]
+fn link_orders_are_not_for_the_program() {
+    let script = "tick\nlink 0 off\nlink 0 9\n";
+    for wish in ["bytes", "hex"] {
+        let output = lcc(&[wish, "-"], script);
+        assert_eq!((output.status.code(), out(&output).as_str()), (Some(2), ""), "{wish}");
+        let why = "lcc: standard input: line 2: link has no byte in a script, so neither hex nor the program can have it; \
+                   play it with --explain, --summary or --picture\n";
+        assert_eq!(err(&output), why, "{wish}");
+    }
+    let output = lcc(&["names", "-"], script);
+    assert_eq!((output.status.code(), out(&output).as_str()), (Some(0), script));
+}
+
+/// The limit counts bytes: a link order right after the last of them is carried out, and none behind it.
+#[test]
+fn link_orders_do_not_count_for_the_limit() {
+    let text = out(&lcc(&["run", "-"], "tick 65536\nlink 0 off\n"));
+    assert!(text.ends_with("65536 05 ok\n65537 link refused 2\nkept\n"));
+    let text = out(&lcc(&["run", "-"], "tick 65535\nsend 0\nlink 0 off\n"));
+    assert!(text.ends_with("65535 05 ok\n65536 02 refused 11\nkept\n"));
+    let text = out(&lcc(&["run", "-"], "link 0 off\ntick 65536\ntick\nlink 0 off\n"));
+    assert!(text.ends_with("65536 05 ok\n65537 05 ok\nkept\n"));
+}
+
+/// Link orders that were accepted stand below the table and on the node's line, and only where there are some.
+#[test]
+fn link_orders_are_summed_up_and_drawn() {
+    let picture = file("told.svg", "");
+    let name = picture.to_str().expect("a plain path");
+    let orders = "link 0 passive\nlink 0 off\nlink 0 3\nlink 9 off\n";
+    let output =
+        lcc(&["run", "-", "--summary", "--picture", name], &format!("{PERMITTED}{orders}"));
+    let listed = "\n2 link states were told:\n  \
+                  node 0 at tick 204: Error Passive; error report 0 is due\n  \
+                  node 0 at tick 204: Bus Off\n";
+    assert!(out(&output).contains(listed), "{}", out(&output));
+    assert!(out(&output).contains("  0         error 0   0\n"), "{}", out(&output));
+    let drawn = fs::read_to_string(&picture).expect("it is there");
+    let sign = "node 0 at tick 204: Error Passive; error report 0 is due, command ";
+    assert!(drawn.contains(sign) && drawn.contains("link state:") && drawn.contains(".link {"));
+    assert_eq!(
+        drawn.matches("class=\"link\"").count(),
+        2 + 3,
+        "two orders, and three in the legend"
+    );
+    lcc(&["run", "-", "--picture", name], &format!("{PERMITTED}link 0 3\n"));
+    let plain = fs::read_to_string(&picture).expect("it is there");
+    assert!(plain.contains("Permitted") && !plain.contains("link"));
+    assert!(!summed_up(PERMITTED).contains("link"));
 }
 
 /// Lists, and what the last line says of each. Those that power no node on follow one that is Permitted at tick 204.

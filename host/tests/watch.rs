@@ -2,43 +2,44 @@
 
 mod random;
 
-use lcc::card::{Answer, Card};
-use lcc::command::{Command, Read};
-use lcc::expand::expand;
-use lcc::play::Turn;
+use lcc::card::{Answer, Card, State, PLACES};
+use lcc::command::Command;
+use lcc::expand::{expand, Expanded};
+use lcc::frame::{Frame, Sort};
+use lcc::told::Told;
 use lcc::watch::{Late, Moment, Overdue, Watch};
 use lcc::{play, script};
 use random::Random;
 
 const SCRIPTS: u64 = 1_000;
 
-/// Random scripts, of which two thirds go on from nodes that are up, with a reply RID or an AMR due at one of them.
-fn script_of(seed: u64) -> Vec<u8> {
+/// Random scripts, of which two thirds go on from nodes that are up, with a reply RID or an AMR due at one of them; half of them
+/// with link orders.
+fn script_of(seed: u64) -> Expanded {
     let up = "on 0 050101010101\non 1 050101010102\nsettle 206\n";
     let before = match seed % 3 {
         0 => String::new(),
         1 => format!("{up}foreign CID 7 263\ndeliver all\n"),
         _ => format!("{up}release 1\n"),
     };
-    let text = before + &random::script(&mut Random::new(seed));
-    expand(&script::parse(&text).expect("it is right")).bytes
+    let random = &mut Random::new(seed);
+    let text = match seed % 2 {
+        0 => random::script(random),
+        _ => random::script_with(&random::LINKS, random),
+    };
+    expand(&script::parse(&(before + &text)).expect("it is right"))
 }
 
 /// The moments of a random script, each with the frame that stood first in the inbox of the node that the command names.
-fn moments(seed: u64, mut check: impl FnMut(&Moment, Option<lcc::frame::Frame>)) {
-    let bytes = script_of(seed);
-    let (mut card, mut watch) = (Card::new(), Watch::default());
-    let (mut at, mut count) = (0, 0);
-    while let Some(read @ Read::Whole(command, size)) =
-        bytes.get(at..).filter(|b| !b.is_empty()).map(Command::read)
-    {
-        count += 1;
-        let first = command.index().and_then(|index| card.inbox(index.into(), 0));
-        let answer = card.carry_out(&command);
-        let turn = Turn { count, at, byte: bytes[at], read, answer };
-        check(&watch.look(&turn, &card), first);
-        at += size;
-    }
+fn moments(seed: u64, mut check: impl FnMut(&Moment, Option<Frame>)) {
+    let script = script_of(seed);
+    let mut watch = Watch::default();
+    let mut first = [None; PLACES];
+    play::play(&script.bytes, &script.links, &mut Card::new(), |turn, card| {
+        let moment = watch.look(turn, card);
+        check(&moment, moment.node().and_then(|index| first[index]));
+        first = std::array::from_fn(|index| card.inbox(index, 0));
+    });
 }
 
 #[test]
@@ -108,11 +109,39 @@ fn what_is_late_is_41_ticks_old() {
 fn whatever_is_late_has_a_cause() {
     for seed in 0..SCRIPTS {
         let (mut card, mut watch, mut named) = (Card::new(), Watch::default(), false);
-        play::play(&script_of(seed), &mut card, |turn, card| {
+        let script = script_of(seed);
+        play::play(&script.bytes, &script.links, &mut card, |turn, card| {
             named |= watch.look(turn, card).late.is_some()
         });
         assert_eq!(named, card.is_late(), "seed {seed}");
     }
+}
+
+/// What the tool says of a link order is what is seen: an error report is due by it, at a Permitted node, or nothing has changed.
+#[test]
+fn by_a_link_order_an_error_report_is_due_or_nothing() {
+    let (mut reports, mut others) = (0, 0);
+    for seed in 0..SCRIPTS {
+        moments(seed, |moment, _| {
+            if moment.link().is_none() {
+                return;
+            }
+            let Some(told) = Told::of(moment) else {
+                assert!(!moment.accepted() && moment.before == moment.after, "seed {seed}");
+                return;
+            };
+            let mut expected = moment.before;
+            expected[told.index].due = told.due.or(expected[told.index].due);
+            assert_eq!(moment.after, expected, "seed {seed}, {:?}", moment.turn);
+            let report = |frame: Frame| matches!(frame.sort(), Some(Sort::ErrorReport(_)));
+            assert!(told.due.is_none_or(report), "seed {seed}, {:?}", moment.turn);
+            let permitted = moment.after[told.index].state == State::Permitted;
+            assert!(permitted || told.due.is_none(), "seed {seed}, {:?}", moment.turn);
+            reports += usize::from(told.due.is_some());
+            others += usize::from(told.due.is_none());
+        });
+    }
+    assert!(reports > 200 && others > 500, "{reports} reports, {others} other link orders");
 }
 
 /// Accepted sends alone carry a frame.

@@ -6,7 +6,7 @@ use super::axis::Axis;
 use super::lanes::Lanes;
 use super::legend;
 use super::record::{Band, Record};
-use super::style::{class_of, is_dark, DEFINITIONS};
+use super::style::{class_of, is_dark, DEFINITIONS, LINK};
 use super::svg::{number, Anchor, Svg};
 use crate::hex::dotted_id;
 use crate::summary::totals;
@@ -53,9 +53,11 @@ pub fn draw(record: &Record, name: &str, last: &str) -> String {
     page.late(&mut svg);
     page.aliases(&mut svg);
     page.collisions(&mut svg);
+    page.links(&mut svg);
     let below = page.told(&mut svg);
-    legend::draw(&mut svg, MARGIN, below);
-    whole(&svg, below + legend::HEIGHT, name)
+    let links = !record.links.is_empty();
+    let height = below + legend::draw(&mut svg, MARGIN, below, links);
+    whole(&svg, height, name, if links { LINK } else { "" })
 }
 
 /// A long sentence is set smaller, so that it stays on the page.
@@ -67,12 +69,13 @@ fn late_class(sentence: &str) -> &'static str {
     }
 }
 
-fn whole(svg: &Svg, height: f64, name: &str) -> String {
+/// The whole text; more styles than all drawings have may stand in it.
+fn whole(svg: &Svg, height: f64, name: &str, styles: &str) -> String {
     let (width, high) = (number(WIDTH), number(height));
     let name = super::svg::escaped(name);
     format!(
         "<svg xmlns=\"http://www.w3.org/2000/svg\" viewBox=\"0 0 {width} {high}\" width=\"{width}\" height=\"{high}\">\n\
-         <title>{name}</title>\n{DEFINITIONS}<rect width=\"{width}\" height=\"{high}\" class=\"paper\"/>\n{}</svg>\n",
+         <title>{name}</title>\n{DEFINITIONS}{styles}<rect width=\"{width}\" height=\"{high}\" class=\"paper\"/>\n{}</svg>\n",
         svg.body
     )
 }
@@ -184,17 +187,26 @@ impl Page<'_> {
     /// The alias on each band that has room for it, beside the folds and the signs.
     fn aliases(&self, svg: &mut Svg) {
         for &index in &self.rows {
+            let signs = self.signs(index);
             for band in self.record.bands[index].iter().filter(|band| band.alias != 0) {
-                self.alias(svg, self.middle(index), band);
+                self.alias(svg, self.middle(index), band, &signs);
             }
         }
     }
 
-    fn alias(&self, svg: &mut Svg, y: f64, band: &Band) {
+    /// The middles of folds and of link orders on the row of a node, from left to right.
+    fn signs(&self, index: usize) -> Vec<f64> {
+        let folds = self.axis.folds.iter().map(|fold| fold.left + fold.width / 2.0);
+        let links = self.record.links.iter().filter(|(_, told)| told.index == index);
+        let mut signs: Vec<f64> = folds.chain(links.map(|(step, _)| self.axis.at(*step))).collect();
+        signs.sort_by(f64::total_cmp);
+        signs
+    }
+
+    fn alias(&self, svg: &mut Svg, y: f64, band: &Band, signs: &[f64]) {
         let (from, to) = (self.axis.at(band.from), self.axis.at_or_end(band.to));
         let mut x = from + 7.0;
-        for fold in &self.axis.folds {
-            let middle = fold.left + fold.width / 2.0;
+        for &middle in signs {
             if x < middle + 7.0 && x + LABEL > middle - 5.0 {
                 x = middle + 7.0;
             }
@@ -249,6 +261,15 @@ impl Page<'_> {
         for (step, collision) in &self.record.collisions {
             let size = if few { 4.5 } else { 2.5 };
             svg.cross(self.axis.at(*step), self.middle(collision.index), size);
+        }
+    }
+
+    /// The letter of each link state that a node was told.
+    fn links(&self, svg: &mut Svg) {
+        for (step, told) in &self.record.links {
+            let (x, y) = (self.axis.at(*step), self.middle(told.index));
+            let title = format!("{}, command {}", told.words(), told.count);
+            legend::link_sign(svg, x, y, told.link.state, &title);
         }
     }
 

@@ -4,11 +4,13 @@ use super::draw::fold_mark;
 use super::style::class_of;
 use super::svg::{Anchor, Svg};
 use crate::card::State;
+use crate::link::STATES;
 
-pub const HEIGHT: f64 = 50.0;
+const HEIGHT: f64 = 50.0;
+const LINKS: f64 = 20.0;
 
-/// Two rows: the states, then the other signs.
-pub fn draw(svg: &mut Svg, left: f64, top: f64) {
+/// Two rows: the states, then the other signs; a third where link orders are drawn. Gives how high they are.
+pub fn draw(svg: &mut Svg, left: f64, top: f64, links: bool) -> f64 {
     let mut x = left;
     for state in &State::ALL[1..] {
         svg.rect(x, top, 26.0, 14.0, class_of(*state));
@@ -23,6 +25,28 @@ pub fn draw(svg: &mut Svg, left: f64, top: f64) {
         "three digits on a band: the alias in test or in use",
     );
     signs(svg, left, top + 30.0);
+    if !links {
+        return HEIGHT;
+    }
+    link_signs(svg, left, top + 30.0 + LINKS);
+    HEIGHT + LINKS
+}
+
+/// The sign of a link order, with the letter of the link state.
+pub fn link_sign(svg: &mut Svg, x: f64, y: f64, state: u8, title: &str) {
+    let letter = STATES.get(usize::from(state)).map_or("?", |(word, _)| &word[..1]);
+    svg.rect_with([x - 5.0, y - 5.5, 10.0, 11.0], "link", title);
+    svg.text(x, y + 3.2, "small", Anchor::Middle, &letter.to_uppercase());
+}
+
+fn link_signs(svg: &mut Svg, left: f64, y: f64) {
+    svg.text(left, y + 4.0, "", Anchor::Start, "the host tells the node its link state:");
+    let mut x = left + 225.0;
+    for (state, (_, name)) in (0..).zip(STATES) {
+        link_sign(svg, x, y, state, name);
+        svg.text(x + 11.0, y + 4.0, "", Anchor::Start, name);
+        x += 106.0;
+    }
 }
 
 fn signs(svg: &mut Svg, left: f64, y: f64) {

@@ -1,9 +1,10 @@
-//! What a run gives to draw: the steps at which something was to be seen, bands, frames, collisions, restarts.
+//! What a run gives to draw: the steps at which something was to be seen, bands, frames, collisions, restarts, link orders.
 
 use crate::card::{Seen, State, PLACES};
 use crate::command::Command;
 use crate::frame::Frame;
 use crate::summary::Collision;
+use crate::told::Told;
 use crate::watch::{Late, Moment, Sender};
 
 /// A command that is drawn, after how many ticks, and how much room it takes beside a frame on the bus.
@@ -28,7 +29,7 @@ pub struct OnBus {
     pub from: Sender,
 }
 
-/// The room of what collided, beside that of a frame on the bus.
+/// The room of what collided, and of a link order, beside that of a frame on the bus.
 const WIDE: f64 = 3.0;
 
 #[derive(Default)]
@@ -39,6 +40,7 @@ pub struct Record {
     pub collisions: Vec<(usize, Collision)>,
     /// Starts with the next alias that no delivered frame caused.
     pub restarts: Vec<(usize, usize)>,
+    pub links: Vec<(usize, Told)>,
     pub late: Option<(usize, Late)>,
     pub ticks: usize,
     pub seen: [Seen; PLACES],
@@ -49,8 +51,9 @@ impl Record {
         self.ticks = moment.tick;
         self.seen = moment.after;
         let changed: Vec<usize> = (0..PLACES).filter(|&index| is_new_band(moment, index)).collect();
-        let on_the_bus = moment.on_the_bus();
-        if changed.is_empty() && on_the_bus.is_none() && moment.late.is_none() {
+        let (on_the_bus, told) = (moment.on_the_bus(), Told::of(moment));
+        let seen = on_the_bus.is_some() || told.is_some() || moment.late.is_some();
+        if changed.is_empty() && !seen {
             return;
         }
         let step = self.steps.len();
@@ -65,6 +68,7 @@ impl Record {
             self.widen(step, collision.arrival.count);
             self.collisions.push((step, collision));
         }
+        self.links.extend(told.map(|told| (step, told)));
         self.late = self.late.or(moment.late.map(|late| (step, late)));
     }
 
@@ -113,6 +117,7 @@ fn is_new_band(moment: &Moment, index: usize) -> bool {
 fn weight(moment: &Moment) -> f64 {
     match moment.command() {
         Some(Command::On { .. }) => 0.3,
+        _ if moment.link().is_some() => WIDE,
         _ => 1.0,
     }
 }

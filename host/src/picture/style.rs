@@ -20,6 +20,12 @@ pub fn is_dark(state: State) -> bool {
     matches!(state, State::Permitted | State::Silent)
 }
 
+/// What stands before the shapes besides, where link orders are drawn.
+pub const LINK: &str = r##"<style>
+.link { fill: #fff; stroke: #111; stroke-width: 1.2; }
+</style>
+"##;
+
 /// What stands before the shapes.
 pub const DEFINITIONS: &str = r##"<defs>
 <pattern id="p-testing" width="6" height="6" patternUnits="userSpaceOnUse" patternTransform="rotate(45)">

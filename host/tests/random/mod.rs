@@ -1,4 +1,5 @@
-//! Random scripts by name, drawn from a seed.
+//! Random scripts by name, drawn from a seed, with link orders or without. Not every test has a use for both.
+#![allow(dead_code)]
 
 /// A generator of random numbers; the same seed gives the same ones.
 pub struct Random(u64);
@@ -24,8 +25,41 @@ impl Random {
     }
 }
 
+/// Link orders, accepted ones and refused ones; and such as are refused whatever the card holds.
+pub const LINKS: [&str; 10] = [
+    "link 0 active",
+    "link 0 passive",
+    "link 0 off",
+    "link 1 0",
+    "LINK 1 Passive",
+    "link 1 2",
+    "link 2 off",
+    "link 007 1",
+    "link 0 3",
+    "link 24 off",
+];
+pub const REFUSED_LINKS: [&str; 4] = ["link 24 active", "link 255 3", "link 0 3", "link 1 255"];
+
 /// A script by name of up to 40 lines. Few nodes, Node IDs and aliases, so that much collides.
 pub fn script(random: &mut Random) -> String {
+    script_of(random, line)
+}
+
+/// Such a script in which every third line is one of these link orders.
+pub fn script_with(links: &[&str], random: &mut Random) -> String {
+    script_of(
+        random,
+        |random| {
+            if random.one_in(3) {
+                random.pick(links).into()
+            } else {
+                line(random)
+            }
+        },
+    )
+}
+
+fn script_of(random: &mut Random, line: impl Fn(&mut Random) -> String) -> String {
     let lines = random.below(40);
     let mut text = String::new();
     for _ in 0..lines {
