@@ -109,6 +109,10 @@ impl Card {
         unsafe { card_release(self.table(), index) }
     }
 
+    pub fn link(&mut self, index: usize, state: u8) -> u64 {
+        unsafe { card_link(self.table(), index, state) }
+    }
+
     pub fn look(&self, index: usize, seen: &mut [u64; 12]) -> u64 {
         unsafe { card_look(self.words().as_ptr(), index, seen.as_mut_ptr()) }
     }

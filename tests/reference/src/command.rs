@@ -1,4 +1,5 @@
-//! The nine commands, read from and written to the bytes of a script.
+//! The commands of a list: nine that are read from and written to the bytes of a script, and the
+//! link order, which no script can carry.
 
 use crate::frame::Frame;
 use crate::refusal::Refusal;
@@ -17,13 +18,15 @@ pub enum Command {
     Message { index: u8, field: u16, len: u8, data: [u8; 8] },
     Enquiry { index: u8, len: u8, id: [u8; 6] },
     Release { index: u8 },
+    Link { index: u8, state: u8 },
 }
 
 /// How many operand bytes each of the commands 01 to 09 has.
 pub const OPERANDS: [usize; 9] = [7, 1, 1, 1, 0, 14, 12, 8, 1];
 
 impl Command {
-    /// Reads the first command and gives the rest after it; 10 unknown, 11 cut short.
+    /// Reads the first command and gives the rest after it; 10 unknown, 11 cut short. No byte is
+    /// the link order's.
     #[inline]
     pub fn read(script: &[u8]) -> Result<(Command, &[u8]), Refusal> {
         let (&byte, rest) = script.split_first().ok_or(Refusal::CutShort)?;
@@ -58,26 +61,27 @@ impl Command {
         Command::Enquiry { index, len, id }
     }
 
-    /// The byte that names the command.
-    pub fn byte(&self) -> u8 {
+    /// The byte that names the command in a script; the link order has none.
+    pub fn byte(&self) -> Option<u8> {
         match self {
-            Command::PowerOn { .. } => 0x01,
-            Command::Send { .. } => 0x02,
-            Command::FailedSend { .. } => 0x03,
-            Command::Deliver { .. } => 0x04,
-            Command::Tick => 0x05,
-            Command::Foreign { .. } => 0x06,
-            Command::Message { .. } => 0x07,
-            Command::Enquiry { .. } => 0x08,
-            Command::Release { .. } => 0x09,
+            Command::PowerOn { .. } => Some(0x01),
+            Command::Send { .. } => Some(0x02),
+            Command::FailedSend { .. } => Some(0x03),
+            Command::Deliver { .. } => Some(0x04),
+            Command::Tick => Some(0x05),
+            Command::Foreign { .. } => Some(0x06),
+            Command::Message { .. } => Some(0x07),
+            Command::Enquiry { .. } => Some(0x08),
+            Command::Release { .. } => Some(0x09),
+            Command::Link { .. } => None,
         }
     }
 
-    /// Writes the command's bytes at the end of a script.
+    /// Writes the command's bytes at the end of a script: none for the link order.
     pub fn write(&self, script: &mut Vec<u8>) {
-        script.push(self.byte());
+        script.extend(self.byte());
         match *self {
-            Command::Tick => {}
+            Command::Tick | Command::Link { .. } => {}
             Command::Send { index }
             | Command::FailedSend { index }
             | Command::Deliver { index }

@@ -16,6 +16,8 @@ pub const RID: u16 = 0x0700;
 pub const AMD: u16 = 0x0701;
 pub const AME: u16 = 0x0702;
 pub const AMR: u16 = 0x0703;
+/// Error report 0; 1 to 3 follow it.
+pub const ERROR_REPORT: u16 = 0x0710;
 
 /// Twelve bits of a Node ID, as a CID carries them. Never an alias.
 #[derive(Clone, Copy, Debug, PartialEq, Eq, PartialOrd, Ord)]
@@ -59,7 +61,7 @@ pub fn kind_of(message: bool, field: u16) -> Kind {
         AMD => Kind::Amd,
         AME => Kind::Ame,
         AMR => Kind::Amr,
-        0x0710..=0x0713 => Kind::ErrorReport((field & 3) as u8),
+        ERROR_REPORT..=0x0713 => Kind::ErrorReport((field & 3) as u8),
         _ => Kind::Reserved,
     }
 }

@@ -1,10 +1,12 @@
-//! Another implementation of document 01, without proofs: the peer for tests and for speed.
+//! Another implementation of document 01, with request A.1 of document 02, without proofs: the peer
+//! for tests and for speed.
 
 pub mod alias;
 pub mod command;
 pub mod frame;
 pub mod header;
 pub mod inbox;
+pub mod link;
 pub mod map;
 pub mod node;
 pub mod refusal;
@@ -16,6 +18,7 @@ pub mod generate;
 pub use alias::{first_alias, next_alias, Alias};
 pub use command::{Answer, Command};
 pub use frame::Frame;
+pub use link::Link;
 pub use map::AliasMap;
 pub use node::{Node, State};
 pub use refusal::Refusal;

@@ -2,7 +2,8 @@
 
 use crate::alias::{self, Alias};
 use crate::frame::{Frame, EXTENDED};
-use crate::header::{self, Kind, Section, AMD, AME, AMR, FIELD_MAX, RID};
+use crate::header::{self, Kind, Section, AMD, AME, AMR, ERROR_REPORT, FIELD_MAX, RID};
+use crate::link::Link;
 use crate::refusal::Refusal;
 
 /// The states that document 01 names.
@@ -54,11 +55,14 @@ pub struct Waiting {
     pub reply: bool,
     pub amd: bool,
     pub report: bool,
+    /// The number of the error report.
+    pub error: Option<u8>,
     pub host: Option<Frame>,
 }
 
 impl Waiting {
-    pub const NOTHING: Waiting = Waiting { reply: false, amd: false, report: false, host: None };
+    pub const NOTHING: Waiting =
+        Waiting { reply: false, amd: false, report: false, error: None, host: None };
 }
 
 /// What must leave in time: a reply RID or an AMR.
@@ -80,20 +84,27 @@ pub struct Node {
     id: u64,
     generator: u64,
     waiting: Waiting,
+    /// What the host told last. Power-on alone sets it back.
+    link: Link,
 }
 
 impl Node {
     /// Ticks from CID 4 to the reserving RID.
     pub const WAIT: u8 = 201;
 
-    pub const OFF: Node =
-        Node { phase: Phase::Off, alias: Alias(0), id: 0, generator: 0, waiting: Waiting::NOTHING };
+    pub const OFF: Node = Node {
+        phase: Phase::Off,
+        alias: Alias(0),
+        id: 0,
+        generator: 0,
+        waiting: Waiting::NOTHING,
+        link: Link::ErrorActive,
+    };
 
     /// A node as power-on leaves it; 3 for Node ID 0 or above 48 bits.
     pub fn power_on(id: u64) -> Result<Node, Refusal> {
         let alias = alias::first_alias(id)?;
-        let phase = Phase::Check(7);
-        Ok(Node { phase, alias, id, generator: id, waiting: Waiting::NOTHING })
+        Ok(Node { phase: Phase::Check(7), alias, id, generator: id, ..Node::OFF })
     }
 
     pub fn state(&self) -> State {
@@ -114,6 +125,10 @@ impl Node {
 
     pub fn waiting(&self) -> &Waiting {
         &self.waiting
+    }
+
+    pub fn link_state(&self) -> Link {
+        self.link
     }
 
     pub fn id(&self) -> u64 {
@@ -171,6 +186,8 @@ impl Node {
         } else if self.waiting.report {
             let header = header::join(true, REPORT_FIELD, self.alias);
             Some(Frame::extended(header, &REPORT_DATA))
+        } else if let Some(number) = self.waiting.error {
+            Some(self.with_own_id(ERROR_REPORT + u16::from(number)))
         } else {
             self.waiting.host
         }
@@ -236,6 +253,8 @@ impl Node {
         } else if self.waiting.report {
             self.phase = Phase::Silent;
             self.waiting = Waiting::NOTHING;
+        } else if self.waiting.error.is_some() {
+            self.waiting.error = None;
         } else {
             self.waiting.host = None;
         }
@@ -350,5 +369,18 @@ impl Node {
             }
             _ => Err(Refusal::NotPermitted),
         }
+    }
+
+    /// The host tells the link state; 2, 14. Only Permitted reports the change.
+    pub fn link(&mut self, state: u8) -> Result<(), Refusal> {
+        if self.is_off() {
+            return Err(Refusal::Off);
+        }
+        let next = Link::of(state)?;
+        if self.phase == Phase::Permitted {
+            self.waiting.error = self.link.report(next).or(self.waiting.error);
+        }
+        self.link = next;
+        Ok(())
     }
 }

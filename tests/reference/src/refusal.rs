@@ -1,4 +1,4 @@
-//! The numbered refusals, one name for each number of document 01.
+//! The numbered refusals, one name for each number of document 01 and of the requests.
 
 #[derive(Clone, Copy, Debug, PartialEq, Eq, PartialOrd, Ord)]
 #[repr(u8)]
@@ -16,6 +16,7 @@ pub enum Refusal {
     CutShort = 11,
     MapFull = 12,
     Absent = 13,
+    BadLinkState = 14,
 }
 
 impl Refusal {

@@ -1,4 +1,4 @@
-//! The segment: 24 nodes with inboxes, ages, the late latch and the nine commands.
+//! The segment: 24 nodes with inboxes, ages, the late latch and the commands of lists.
 
 use crate::alias::Alias;
 use crate::command::{Answer, Command};
@@ -69,6 +69,7 @@ impl Segment {
             }
             Command::Enquiry { index, len, id } => self.enquiry(index.into(), len, id)?,
             Command::Release { index } => self.release(index.into())?,
+            Command::Link { index, state } => self.link(index.into(), state)?,
         }
         Ok(None)
     }
@@ -153,6 +154,11 @@ impl Segment {
     pub fn release(&mut self, index: usize) -> Result<(), Refusal> {
         let place = place(index)?;
         self.change(place, Node::release)
+    }
+
+    /// 1, 2, 14.
+    pub fn link(&mut self, index: usize, state: u8) -> Result<(), Refusal> {
+        self.nodes[place(index)?].link(state)
     }
 
     /// Lets an event happen at a node, and starts the age of what it owes anew if that changed.

@@ -1,11 +1,13 @@
-//! The stored corpus reaches every cell that can be reached, and every mark.
+//! The stored corpus reaches every cell that scripts can reach, and every mark; lists with link
+//! orders reach every cell, and every link mark.
 
 use reference::generate::corpus;
-use reference::generate::coverage::{Coverage, Event, Row};
+use reference::generate::coverage::{in_scripts, Coverage, Event, Row};
+use reference::generate::link_lists;
 use reference::generate::map_corpus::{self, MapRule};
 use reference::generate::marks::Mark;
 use reference::generate::prng::Prng;
-use reference::generate::walker::{walk, Temper};
+use reference::generate::walker::{walk, walk_list, Temper};
 
 #[test]
 fn corpus_of_scripts_is_complete() {
@@ -23,6 +25,18 @@ fn corpus_of_scripts_is_complete() {
     assert_eq!(cover.unlisted_cells(), []);
 }
 
+#[test]
+fn lists_with_link_orders_are_complete() {
+    let lists = link_lists::lists(corpus::SEED);
+    let mut cover = Coverage::new();
+    lists.iter().for_each(|list| cover.count_list(list));
+    println!("{} lists; {} cells reached", lists.len(), cover.cells.len());
+    assert_eq!(cover.missing_in_lists(), []);
+    assert_eq!(cover.missing_link_marks(), []);
+    assert_eq!(cover.unlisted_cells(), []);
+    assert_eq!(cover.impossible_cells(), []);
+}
+
 /// By the corpus and by random scripts, which do not know what is called impossible.
 #[test]
 fn no_cell_that_is_called_impossible_is_met() {
@@ -36,6 +50,19 @@ fn no_cell_that_is_called_impossible_is_met() {
         cover.count_script(&walk(&mut rng, temper));
     }
     assert_eq!(cover.impossible_cells(), []);
+    assert!(cover.met.keys().all(|&(row, event)| in_scripts(row, event)));
+}
+
+#[test]
+fn no_list_meets_a_cell_that_is_called_impossible() {
+    let mut cover = Coverage::new();
+    for seed in 0..300 {
+        let mut rng = Prng::new(seed);
+        let temper = Temper { links: 10, ..Temper::random(&mut rng, 1_000) };
+        cover.count_list(&walk_list(&mut rng, temper));
+    }
+    assert_eq!(cover.impossible_cells(), []);
+    assert!(!cover.met.keys().all(|&(row, event)| in_scripts(row, event)));
 }
 
 #[test]

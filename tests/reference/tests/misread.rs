@@ -1,34 +1,12 @@
 //! Points of document 01 that are easily misread, one test or more for each.
 
+mod common;
+
+use common::{in_state, refusal, ID};
 use reference::generate::draft::Draft;
 use reference::header::{AMD, AME, RESERVED_BIT};
 use reference::script::INPUT_MAX;
-use reference::{run, run_program, Alias, Command, Frame, Refusal, State};
-
-const ID: u64 = 0x0501_0101_0101;
-
-/// One node at index 0, in this state.
-fn in_state(state: State) -> Draft {
-    let mut draft = Draft::new();
-    draft.power_on(0, ID);
-    let goal = if state == State::Reserved { State::Reserved } else { State::Permitted };
-    if state != State::Testing {
-        draft.bring_all(&[0], goal);
-    }
-    match state {
-        State::Leaving => drop(draft.release(0)),
-        State::Resting => drop(draft.release(0).send(0)),
-        State::Silent => drop(draft.foreign_amd_of(0).deliver(0).send(0)),
-        _ => {}
-    }
-    assert_eq!(draft.state(0), state);
-    assert!(!draft.segment.is_late());
-    draft
-}
-
-fn refusal(draft: &Draft) -> u8 {
-    draft.answer.err().map_or(0, Refusal::number)
-}
+use reference::{run, run_program, Alias, Command, Frame, State};
 
 fn output(script: &[u8]) -> String {
     let mut out = Vec::new();

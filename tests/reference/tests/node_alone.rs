@@ -54,6 +54,8 @@ fn off_refuses_by_2_before_all_else() {
     refused(Node::OFF, 2, |node| node.message(0x8000, 9, [0; 8]));
     refused(Node::OFF, 2, |node| node.enquiry(1, [0; 6]));
     refused(Node::OFF, 2, Node::release);
+    refused(Node::OFF, 2, |node| node.link(0));
+    refused(Node::OFF, 2, |node| node.link(3));
     let mut node = Node::OFF;
     node.tick();
     assert_eq!(node, Node::OFF);
@@ -78,6 +80,17 @@ fn malformed_frames_and_orders_are_9_in_every_other_state() {
         refused(node, 9, |node| node.message(0, 9, [0; 8]));
         for len in [1, 2, 3, 4, 5, 7, 8, 255] {
             refused(node, 9, |node| node.enquiry(len, [1; 6]));
+        }
+    }
+}
+
+#[test]
+fn link_states_above_2_are_14_in_every_other_state() {
+    for state in State::ON {
+        let mut node = in_state(state);
+        for before in 0..=2 {
+            node.link(before).unwrap();
+            (3..=255).for_each(|above| refused(node, 14, |node| node.link(above)));
         }
     }
 }
@@ -139,11 +152,13 @@ fn failed_sends() {
     }
 }
 
-/// Reply RID, AMD, report, host frame: in this order, and the report ends all.
+/// Reply RID, AMD, duplicate report, error report, host frame: in this order, and the duplicate
+/// report ends all.
 #[test]
 fn waiting_frames_leave_in_order() {
     let mut node = in_state(State::Permitted);
     node.enquiry(6, [0; 6]).unwrap();
+    node.link(1).unwrap();
     node.receives(&Frame::with_node_id(0x1070_1001, ID)).unwrap();
     node.receives(&Frame::extended(0x0070_2000, &[])).unwrap();
     node.receives(&Frame::extended(0x1123_4263, &[1])).unwrap();
@@ -151,6 +166,8 @@ fn waiting_frames_leave_in_order() {
     assert_eq!(node.leaves(), Ok(Frame::with_node_id(0x1070_1263, ID)));
     let mut without_report = in_state(State::Permitted);
     without_report.enquiry(6, [0; 6]).unwrap();
+    without_report.link(1).unwrap();
+    assert_eq!(without_report.leaves(), Ok(Frame::with_node_id(0x1071_0263, ID)));
     assert_eq!(without_report.leaves(), Ok(Frame::extended(0x1070_2263, &[0; 6])));
     let report = Frame::extended(0x195B_4263, &[1, 1, 0, 0, 0, 2, 1]);
     assert_eq!(node.leaves(), Ok(report));

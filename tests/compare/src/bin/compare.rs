@@ -40,7 +40,7 @@ fn script_of(rng: &mut Prng) -> (Vec<u8>, bool) {
     let mut script = walk(rng, temper);
     if rng.below(40) == 0 {
         let ticks = rng.between(ROUND - 250, ROUND);
-        script.splice(..0, std::iter::repeat_n(Command::Tick.byte(), ticks));
+        script.splice(..0, std::iter::repeat_n(Command::Tick.byte(), ticks).flatten());
     }
     let harmed = rng.percent(35);
     if harmed {

@@ -1,15 +1,15 @@
 //! Compares the operations for C with the other implementation. The table: OPERATIONS commands, and all that is seen after each of
-//! them; first the lists of the stored corpus, which meet every state with every event, then others by chance. Then headers, aliases
-//! and the map. SEED may be given.
+//! them; first the lists of the stored corpus, which meet every state with every event that a script can carry, then lists with
+//! link orders, which meet the rest too, then others by chance. Then headers, aliases and the map. SEED may be given.
 
 use compare::operations::map::{self, Counts};
 use compare::operations::operation::Operation;
 use compare::operations::{cover, headers, list, pair};
 use compare::setting::{fresh_seed, setting};
 use compare::shrink::fewest;
-use reference::generate::corpus;
 use reference::generate::coverage::Coverage;
 use reference::generate::prng::Prng;
+use reference::generate::{corpus, link_lists};
 use std::fmt::Display;
 use std::process::exit;
 
@@ -29,9 +29,13 @@ fn main() {
 }
 
 fn compare_tables(seed: u64, wanted: usize) {
-    let mut run = Run { cover: Coverage::new(), lists: 0, late: 0, done: 0, far: 0, wanted };
+    let mut run = Run { cover: Coverage::new(), lists: 0, late: 0, done: 0, far: 0, links: 0, wanted };
     for script in corpus::scripts(corpus::SEED) {
         run.compare(&list::of_script(&script), "of the stored corpus");
+    }
+    for commands in link_lists::lists(corpus::SEED) {
+        let list: Vec<Operation> = commands.into_iter().map(Operation::from).collect();
+        run.compare(&list, "with link orders, of those made for every run");
     }
     for number in 0.. {
         if run.done >= wanted {
@@ -41,6 +45,7 @@ fn compare_tables(seed: u64, wanted: usize) {
         run.compare(&list::random(&mut Prng::new(seed)), &format!("made by SEED={seed}"));
     }
     println!("{}", cover::table(&run.cover));
+    println!("{}", cover::link_marks(&run.cover));
     run.end(seed);
 }
 
@@ -51,6 +56,7 @@ struct Run {
     late: usize,
     done: usize,
     far: usize,
+    links: usize,
     wanted: usize,
 }
 
@@ -67,6 +73,7 @@ impl Run {
         self.lists += 1;
         self.done += list.len();
         self.far += list.iter().filter(|operation| operation.command().is_none()).count();
+        self.links += list.iter().filter(|operation| matches!(operation, Operation::Link { .. })).count();
     }
 
     /// A line for each tenth.
@@ -82,9 +89,13 @@ impl Run {
         if !unmet.is_empty() {
             fail(&format!("these states and events never met, though they can: {unmet:?}"));
         }
-        let Run { lists, late, done, far, .. } = self;
+        let unmet = self.cover.missing_link_marks();
+        if !unmet.is_empty() {
+            fail(&format!("these link marks were never met: {unmet:?}"));
+        }
+        let Run { lists, late, done, far, links, .. } = self;
         println!("operations: {done} commands agree, SEED={seed}: in {lists} lists, {late} of them late;");
-        println!("operations: {far} of them have operands that no script can carry;");
+        println!("operations: {far} of them have operands that no script can carry, and {links} are link orders;");
         println!("operations: after each, every node, due frame and inbox; and no word was changed by a refusal or by a look");
     }
 }

@@ -1,6 +1,7 @@
-//! How often each state of a node met each event, drawn as a table.
+//! How often each state of a node met each event, drawn as a table; and how often each link mark was met.
 
 use reference::generate::coverage::{reachable, Coverage, Event, Row};
+use reference::generate::link_marks::{Cause, LinkMark};
 use std::collections::{BTreeMap, BTreeSet};
 use std::fmt::Write;
 
@@ -31,6 +32,8 @@ fn label(event: Event) -> String {
         Event::DeliverAliasZero(heed) => format!("deliver {heed:?}, alias 0"),
         Event::BusFrame => "another node's frame comes".to_string(),
         Event::ForeignFrame => "a foreign frame comes".to_string(),
+        Event::Link { was, is } => format!("link {} to {}", was.number(), is.number()),
+        Event::LinkRefused(refusal) => format!("link, refused {refusal}"),
     }
 }
 
@@ -49,6 +52,33 @@ pub fn table(cover: &Coverage) -> String {
             let count = counts.get(&(event, state)).map_or("-".to_string(), u64::to_string);
             write!(text, "{count:>11}").expect("a string takes it");
         }
+    }
+    text
+}
+
+fn mark_label(mark: LinkMark) -> String {
+    match mark {
+        LinkMark::Answer(0) => "link order".to_string(),
+        LinkMark::Answer(refusal) => format!("link order, refused {refusal}"),
+        LinkMark::Order(first, second) => format!("link order, refused {first} before {second}"),
+        LinkMark::Left(report) => format!("error report {report} left"),
+        LinkMark::Replaced(first, second) => format!("error report {first} replaced by {second}"),
+        LinkMark::Dropped(Cause::Collision) => "error report dropped by a collision".to_string(),
+        LinkMark::Dropped(Cause::Release) => "error report dropped by a release".to_string(),
+        LinkMark::Dropped(Cause::Silent) => "error report dropped by the duplicate report".to_string(),
+        LinkMark::Dropped(Cause::PowerOn) => "error report dropped by power-on".to_string(),
+        LinkMark::ToldIn(state) => format!("error report from a link state told in {state:?}"),
+        LinkMark::KeptThroughRestart(state) => format!("error report from a link state kept by a restart in {state:?}"),
+        LinkMark::SetBack => "error report from the link state that power-on set back".to_string(),
+    }
+}
+
+/// A line for each link mark: how often it was met.
+pub fn link_marks(cover: &Coverage) -> String {
+    let count = |mark| cover.links.counts.get(&mark).unwrap_or(&0);
+    let mut text = format!("{:<61}{:>11}", "link orders and error reports", "met");
+    for mark in LinkMark::all() {
+        write!(text, "\n{:<61}{:>11}", mark_label(mark), count(mark)).expect("a string takes it");
     }
     text
 }

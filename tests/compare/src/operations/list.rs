@@ -1,10 +1,11 @@
-//! Lists of operations: the commands of a script, and among them operations with operands that no script can carry.
+//! Lists of operations: the commands of a script or of a list with link orders, and among them operations with operands that no
+//! command can carry.
 
 use super::operation::Operation;
 use crate::ROUND;
 use reference::generate::draft::Draft;
 use reference::generate::prng::Prng;
-use reference::generate::walker::{walk, walk_on, Temper};
+use reference::generate::walker::{walk_list, walk_list_on, Temper};
 use reference::{Command, Segment};
 
 /// The whole commands of a script.
@@ -20,34 +21,34 @@ pub fn of_script(script: &[u8]) -> Vec<Operation> {
 
 /// A list by chance with far operands among the others. A few begin with ticks until the proved clock goes round.
 pub fn random(rng: &mut Prng) -> Vec<Operation> {
-    let script = script(rng);
+    let commands = commands(rng);
     let mut list = Vec::new();
     if rng.below(2_000) == 0 {
         list.resize(rng.between(ROUND - 250, ROUND), Operation::Tick);
     }
-    for operation in of_script(&script) {
+    for command in commands {
         if rng.percent(8) {
             list.push(far(rng));
         }
-        list.push(operation);
+        list.push(command.into());
     }
     list
 }
 
-/// A script, long or short, from all nodes Off or from some that are Permitted.
-fn script(rng: &mut Prng) -> Vec<u8> {
+/// Commands, many or few, from all nodes Off or from some that are Permitted; with link orders often, seldom or not at all.
+fn commands(rng: &mut Prng) -> Vec<Command> {
     let commands = match rng.below(40) {
         0 => 6_000,
         1..=9 => 10,
         10..=19 => 250,
         _ => 1_000,
     };
-    let temper = Temper::random(rng, commands);
+    let temper = Temper { links: rng.pick(&[0, 2, 10, 30]), ..Temper::random(rng, commands) };
     if temper.nodes == Segment::PLACES || rng.percent(30) {
-        return walk(rng, temper);
+        return walk_list(rng, temper);
     }
     let up = Draft::permitted(&temper.node_ids);
-    walk_on(rng, temper, up)
+    walk_list_on(rng, temper, up)
 }
 
 /// An index: of a node, just behind the last, or far from it.
@@ -63,10 +64,10 @@ fn len(rng: &mut Prng) -> u8 {
     rng.pick(&[0, 6, 7, 8, 9, 255, any])
 }
 
-/// An operation whose operands go beyond what is accepted, or beyond what a script can carry; some are accepted nevertheless.
+/// An operation whose operands go beyond what is accepted, or beyond what a command can carry; some are accepted nevertheless.
 fn far(rng: &mut Prng) -> Operation {
     let (index, len, bytes) = (index(rng), len(rng), rng.number());
-    match rng.below(8) {
+    match rng.below(9) {
         0 => Operation::PowerOn { index, id: rng.pick(&[0, 1 << 48, u64::MAX, bytes | 1 << 48, bytes | 1 << 63]) },
         1 => Operation::Send { index },
         2 => Operation::Fail { index },
@@ -78,13 +79,15 @@ fn far(rng: &mut Prng) -> Operation {
         }
         5 => Operation::Message { index, field: rng.pick(&[0, 0x7FFF, 0x8000, 0xFFFF, bytes as u16]), len, bytes },
         6 => Operation::Enquiry { index, len, bytes },
-        _ => Operation::Release { index },
+        7 => Operation::Release { index },
+        _ => Operation::Link { index, state: rng.pick(&[0, 1, 2, 3, 4, 128, 255, bytes as u8]) },
     }
 }
 
 #[cfg(test)]
 mod tests {
     use super::*;
+    use reference::generate::walker::walk;
 
     #[test]
     fn a_script_and_its_operations_say_the_same() {
@@ -111,5 +114,7 @@ mod tests {
         met(|operation| matches!(operation, Operation::Message { index: 0..=23, len: 255, .. }));
         met(|operation| matches!(operation, Operation::Enquiry { len: 6, bytes, .. } if bytes & 0xFFFF != 0));
         met(|operation| matches!(operation, Operation::Foreign { header: u32::MAX, .. }));
+        met(|operation| matches!(operation, Operation::Link { index: usize::MAX, .. }));
+        met(|operation| matches!(operation, Operation::Link { index: 0..=23, state: 255 }));
     }
 }

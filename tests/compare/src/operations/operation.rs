@@ -17,6 +17,7 @@ pub enum Operation {
     Message { index: usize, field: u16, len: u8, bytes: u64 },
     Enquiry { index: usize, len: u8, bytes: u64 },
     Release { index: usize },
+    Link { index: usize, state: u8 },
 }
 
 impl From<Command> for Operation {
@@ -37,6 +38,7 @@ impl From<Command> for Operation {
                 Operation::Enquiry { index: index.into(), len, bytes: u64::from_be_bytes([a, b, c, d, e, f, 0, 0]) }
             }
             Command::Release { index } => Operation::Release { index: index.into() },
+            Command::Link { index, state } => Operation::Link { index: index.into(), state },
         }
     }
 }
@@ -48,7 +50,7 @@ fn enquired(bytes: u64) -> ([u8; 6], bool) {
 }
 
 impl Operation {
-    /// The command of a script that says the same, if one can.
+    /// The command of a list that says the same, if its operands have room for these.
     pub fn command(&self) -> Option<Command> {
         let byte = |index: usize| u8::try_from(index).ok();
         Some(match *self {
@@ -70,6 +72,7 @@ impl Operation {
                 Command::Enquiry { index: byte(index)?, len, id: whole.then_some(id)? }
             }
             Operation::Release { index } => Command::Release { index: byte(index)? },
+            Operation::Link { index, state } => Command::Link { index: byte(index)?, state },
         })
     }
 
@@ -85,11 +88,12 @@ impl Operation {
             Operation::Message { index, field, len, bytes } => card.message(index, field, len, bytes),
             Operation::Enquiry { index, len, bytes } => card.enquiry(index, len, bytes),
             Operation::Release { index } => card.release(index),
+            Operation::Link { index, state } => card.link(index, state),
         };
         (code, [MARK; 3])
     }
 
-    /// By the other implementation; what a script can say is counted.
+    /// By the other implementation; what is a command too is counted.
     pub fn plain(&self, segment: &mut Segment, cover: &mut Coverage) -> Answer {
         if let Some(command) = self.command() {
             return cover.carry_out(segment, &command);
@@ -102,7 +106,8 @@ impl Operation {
             Operation::Message { index, field, len, bytes } => segment.message(index, field, len, bytes.to_be_bytes())?,
             Operation::Enquiry { index, len, bytes } => segment.enquiry(index, len, enquired(bytes).0)?,
             Operation::Release { index } => segment.release(index)?,
-            Operation::Tick | Operation::Foreign { .. } => unreachable!("a script can say it"),
+            Operation::Link { index, state } => segment.link(index, state)?,
+            Operation::Tick | Operation::Foreign { .. } => unreachable!("it is a command"),
         }
         Ok(None)
     }
@@ -125,6 +130,7 @@ impl fmt::Display for Operation {
             }
             Operation::Enquiry { index, len, bytes } => write!(out, "card_enquiry(table, {index}, {len}, 0x{bytes:016X});"),
             Operation::Release { index } => write!(out, "card_release(table, {index});"),
+            Operation::Link { index, state } => write!(out, "card_link(table, {index}, {state});"),
         }
     }
 }

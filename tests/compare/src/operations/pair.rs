@@ -4,7 +4,7 @@ use super::operation::Operation;
 use super::{answered, put_out, refused, same};
 use crate::card::{Card, MARK};
 use reference::generate::coverage::Coverage;
-use reference::{Alias, Frame, Node, Refusal, Segment, State};
+use reference::{claim_holds, Alias, Frame, Node, Refusal, Segment, State};
 
 /// Indexes and places that no node and no frame has.
 const NO_INDEX: [usize; 6] = [Segment::PLACES, 25, 255, 256, 1 << 32, usize::MAX];
@@ -53,6 +53,9 @@ impl Pair {
         self.look()?;
         if !self.card.guards_hold() {
             return Err(format!("{operation} writes beside the table"));
+        }
+        if !self.segment.is_late() && !claim_holds(&self.segment) {
+            return Err(format!("after {operation} the claim fails on a kept list"));
         }
         Ok(())
     }
@@ -149,6 +152,37 @@ mod tests {
             act(&mut pair);
             assert!(pair.look().is_err());
         }
+    }
+
+    /// Node 3 alone, Permitted.
+    fn permitted() -> Pair {
+        let mut pair = on();
+        while pair.segment.node(3).state() != State::Permitted {
+            for operation in [Operation::Send { index: 3 }, Operation::Tick] {
+                pair.step(&operation, &mut Coverage::new()).expect("both sides agree");
+            }
+        }
+        pair
+    }
+
+    #[test]
+    fn a_report_on_one_side_alone_is_found() {
+        let alone: [fn(&mut Pair); 2] = [|pair| _ = pair.card.link(3, 1), |pair| _ = pair.segment.link(3, 1)];
+        for act in alone {
+            let mut pair = permitted();
+            assert_eq!(pair.look(), Ok(()));
+            act(&mut pair);
+            assert!(pair.look().is_err());
+        }
+    }
+
+    /// Bus Off is not seen, and the next change is reported from there.
+    #[test]
+    fn a_link_state_on_one_side_alone_is_found_by_the_next_change() {
+        let mut pair = permitted();
+        pair.segment.link(3, 2).expect("the node is on");
+        assert_eq!(pair.look(), Ok(()));
+        assert!(pair.step(&Operation::Link { index: 3, state: 1 }, &mut Coverage::new()).is_err());
     }
 
     #[test]

@@ -1,4 +1,4 @@
-//! Coverage: every state of a node against every event, counted over scripts.
+//! Coverage: every state of a node against every event, counted over scripts and lists.
 //!
 //! A cell counts only when the script's output shows what the event did: the node sends
 //! afterwards, and nothing else has changed it in between.
@@ -8,8 +8,10 @@ use std::collections::{BTreeMap, BTreeSet};
 use crate::command::{Answer, Command};
 use crate::frame::Frame;
 use crate::generate::cases::Case;
+use crate::generate::link_marks::{LinkMark, LinkMarks};
 use crate::generate::marks::{Mark, Marks};
 use crate::header::{self, RESERVED_BIT};
+use crate::link::Link;
 use crate::node::{Node, Phase, State};
 use crate::segment::Segment;
 
@@ -21,7 +23,7 @@ pub enum Row {
     Wait,
     Reserve,
     Reserved { reply: bool },
-    Permitted { reply: bool, amd: bool, report: bool, host: bool },
+    Permitted { reply: bool, amd: bool, report: bool, error: bool, host: bool },
     Leaving { released: bool },
     Resting,
     Silent,
@@ -40,6 +42,7 @@ impl Row {
                 reply: waiting.reply,
                 amd: waiting.amd,
                 report: waiting.report,
+                error: waiting.error.is_some(),
                 host: waiting.host.is_some(),
             },
             Phase::Leaving { released } => Row::Leaving { released },
@@ -53,11 +56,12 @@ impl Row {
         rows.extend((4..=7).map(Row::Check));
         rows.extend([false, true].map(|reply| Row::Reserved { reply }));
         rows.extend([false, true].map(|released| Row::Leaving { released }));
-        rows.extend((0..16).map(|bits| Row::Permitted {
+        rows.extend((0..32).map(|bits| Row::Permitted {
             reply: bits & 1 != 0,
             amd: bits & 2 != 0,
             report: bits & 4 != 0,
-            host: bits & 8 != 0,
+            error: bits & 8 != 0,
+            host: bits & 16 != 0,
         }));
         rows.sort();
         rows
@@ -66,7 +70,9 @@ impl Row {
     fn has_due(self) -> bool {
         match self {
             Row::Check(_) | Row::Reserve | Row::Reserved { .. } | Row::Leaving { .. } => true,
-            Row::Permitted { reply, amd, report, host } => reply || amd || report || host,
+            Row::Permitted { reply, amd, report, error, host } => {
+                reply || amd || report || error || host
+            }
             Row::Off | Row::Wait | Row::Resting | Row::Silent => false,
         }
     }
@@ -90,6 +96,13 @@ pub enum Event {
     /// Another node's frame, or a foreign one, joins its inbox, or passes by if it is Off.
     BusFrame,
     ForeignFrame,
+    /// The node is told this link state after that one.
+    Link {
+        was: Link,
+        is: Link,
+    },
+    /// A link order at its index is refused.
+    LinkRefused(u8),
 }
 
 #[derive(Clone, Copy, Debug, PartialEq, Eq, PartialOrd, Ord)]
@@ -123,6 +136,10 @@ impl Event {
         let heeds = [Heed::OwnCid, Heed::OwnOther, Heed::Ame, Heed::Amd];
         events.extend(heeds.map(Event::DeliverBit28Clear));
         events.extend([Heed::Ame, Heed::Amd].map(Event::DeliverAliasZero));
+        for was in Link::ALL {
+            events.extend(Link::ALL.map(|is| Event::Link { was, is }));
+        }
+        events.extend([2, 14].map(Event::LinkRefused));
         events.sort();
         events
     }
@@ -163,9 +180,11 @@ pub fn impossible(row: Row, event: Event) -> Option<&'static str> {
     match (row, event) {
         (_, Event::BusFrame | Event::ForeignFrame | Event::Answer(5, 0)) => None,
         (_, Event::Answer(1, _)) => None,
-        (Row::Off, Event::Answer(_, 2)) => None,
+        (Row::Off, Event::Answer(_, 2) | Event::LinkRefused(2)) => None,
         (Row::Off, _) => Some("Off answers every command but power-on and tick by 2"),
-        (_, Event::Answer(_, 2)) => Some("2 is Off's alone, and no node turns Off"),
+        (_, Event::Answer(_, 2) | Event::LinkRefused(2)) => {
+            Some("2 is Off's alone, and no node turns Off")
+        }
         (_, Event::Answer(2 | 3, 4)) => reason(row.has_due(), "a frame is due, so not 4"),
         (_, Event::Answer(2 | 3, _)) => reason(!row.has_due(), "nothing is due: 4 comes first"),
         (_, Event::Answer(7 | 8, 7)) => reason(permitted, "Permitted is not refused by 7"),
@@ -177,6 +196,12 @@ pub fn impossible(row: Row, event: Event) -> Option<&'static str> {
         (_, Event::Answer(9, _)) => reason(!permitted, "only Permitted can be released"),
         _ => None,
     }
+}
+
+/// Whether a script may reach a cell: it has no link order, and so no error report waits in it.
+pub fn in_scripts(row: Row, event: Event) -> bool {
+    let link = matches!(event, Event::Link { .. } | Event::LinkRefused(_));
+    !link && !matches!(row, Row::Permitted { error: true, .. })
 }
 
 /// The cells that can be reached.
@@ -191,6 +216,7 @@ pub fn reachable() -> impl Iterator<Item = (Row, Event)> {
 pub struct Coverage {
     pub cells: BTreeMap<(Row, Event), u64>,
     pub marks: Marks,
+    pub links: LinkMarks,
     /// How often each cell was met, shown or not.
     pub met: BTreeMap<(Row, Event), u64>,
     /// For each place, the cells that its next sends will show.
@@ -224,7 +250,8 @@ pub fn index_of(command: &Command) -> Option<usize> {
         | Command::Deliver { index }
         | Command::Message { index, .. }
         | Command::Enquiry { index, .. }
-        | Command::Release { index } => Some(usize::from(index)),
+        | Command::Release { index }
+        | Command::Link { index, .. } => Some(usize::from(index)),
         Command::Tick | Command::Foreign { .. } => None,
     }
 }
@@ -254,9 +281,19 @@ impl Coverage {
         self.end_script(&segment);
     }
 
-    /// After a script's last command: what was not shown is lost.
+    /// Counts a whole list.
+    pub fn count_list(&mut self, list: &[Command]) {
+        let mut segment = Segment::new();
+        for command in list {
+            let _ = self.carry_out(&mut segment, command);
+        }
+        self.end_script(&segment);
+    }
+
+    /// After the last command of a script or list: what was not shown is lost.
     pub fn end_script(&mut self, segment: &Segment) {
         self.marks.count_end(segment);
+        self.links.count_end();
         self.pending = Default::default();
     }
 
@@ -266,6 +303,7 @@ impl Coverage {
         self.marks.count_before(segment, command);
         let answer = segment.carry_out(command);
         self.marks.count_after(segment, command, &answer);
+        self.links.count(before.node.as_ref(), segment, command, &answer);
         let refusal = answer.as_ref().map_or_else(|refusal| refusal.number(), |_| 0);
         self.show_earlier(&before, segment, command, refusal);
         for (place, event) in events(&before, command, refusal) {
@@ -318,8 +356,14 @@ impl Coverage {
         }
     }
 
-    /// The cells that can be reached and were not shown.
+    /// The cells that scripts can reach and that were not shown.
     pub fn missing_cells(&self) -> Vec<(Row, Event)> {
+        let missing = self.missing_in_lists().into_iter();
+        missing.filter(|&(row, event)| in_scripts(row, event)).collect()
+    }
+
+    /// The cells that lists can reach and that were not shown.
+    pub fn missing_in_lists(&self) -> Vec<(Row, Event)> {
         reachable().filter(|cell| !self.cells.contains_key(cell)).collect()
     }
 
@@ -344,6 +388,10 @@ impl Coverage {
     pub fn missing_marks(&self) -> Vec<Mark> {
         Mark::all().into_iter().filter(|mark| !self.marks.met(mark)).collect()
     }
+
+    pub fn missing_link_marks(&self) -> Vec<LinkMark> {
+        LinkMark::all().into_iter().filter(|mark| !self.links.met(mark)).collect()
+    }
 }
 
 /// What a command was, for each node that it concerns.
@@ -365,7 +413,16 @@ fn events(before: &Before, command: &Command, refusal: u8) -> Vec<(usize, Event)
         Command::Enquiry { len, .. } if refusal == 0 => {
             events.push((place, Event::EnquiryTaken { all: len == 0 }));
         }
-        _ => events.push((place, Event::Answer(command.byte(), refusal))),
+        Command::Link { state, .. } => {
+            let was = before.node.expect("a node").link_state();
+            let link = |is| Event::Link { was, is };
+            let taken = Link::of(state).ok().filter(|_| refusal == 0);
+            events.push((place, taken.map_or(Event::LinkRefused(refusal), link)));
+        }
+        _ => {
+            let byte = command.byte().expect("all but the link order have one");
+            events.push((place, Event::Answer(byte, refusal)));
+        }
     }
     if matches!(command, Command::Send { .. }) && refusal == 0 {
         events.extend(everywhere(Event::BusFrame).filter(|&(other, _)| other != place));

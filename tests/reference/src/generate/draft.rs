@@ -1,4 +1,4 @@
-//! A script being written, with the segment as it stands after it.
+//! A list being written, as a script too, with the segment as it stands after it.
 
 use crate::alias::Alias;
 use crate::command::{Answer, Command};
@@ -9,14 +9,16 @@ use crate::segment::Segment;
 
 /// Each method that writes a command leaves the answer in `answer`.
 pub struct Draft {
+    /// The script: all of the list but its link orders.
     pub bytes: Vec<u8>,
+    pub list: Vec<Command>,
     pub segment: Segment,
     pub answer: Answer,
 }
 
 impl Default for Draft {
     fn default() -> Self {
-        Draft { bytes: Vec::new(), segment: Segment::new(), answer: Ok(None) }
+        Draft { bytes: vec![], list: vec![], segment: Segment::new(), answer: Ok(None) }
     }
 }
 
@@ -27,9 +29,15 @@ impl Draft {
 
     /// Writes a command and carries it out.
     pub fn push(&mut self, command: Command) -> &mut Draft {
-        command.write(&mut self.bytes);
+        self.write(&command);
         self.answer = self.segment.carry_out(&command);
         self
+    }
+
+    /// Writes a command that its user carries out.
+    pub(crate) fn write(&mut self, command: &Command) {
+        command.write(&mut self.bytes);
+        self.list.push(*command);
     }
 
     pub fn power_on(&mut self, index: u8, id: u64) -> &mut Draft {
@@ -71,6 +79,10 @@ impl Draft {
 
     pub fn release(&mut self, index: u8) -> &mut Draft {
         self.push(Command::Release { index })
+    }
+
+    pub fn link(&mut self, index: u8, state: u8) -> &mut Draft {
+        self.push(Command::Link { index, state })
     }
 
     /// The alias of a node, in any state.

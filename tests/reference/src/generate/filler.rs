@@ -1,13 +1,16 @@
-//! Scripts that seek the cells of the coverage table which nothing has reached yet.
+//! Scripts and lists that seek the cells of the coverage table which nothing has reached yet.
+
+use std::collections::BTreeMap;
 
 use crate::command::Command;
 use crate::frame::Frame;
 use crate::generate::cases::Case;
-use crate::generate::coverage::{impossible, Coverage, Event, Heed, Row};
+use crate::generate::coverage::{impossible, in_scripts, Coverage, Event, Heed, Row};
 use crate::generate::draft::Draft;
 use crate::generate::prng::Prng;
 use crate::header::{RESERVED_BIT, TYPE_BIT};
 use crate::inbox::Inbox;
+use crate::link::Link;
 use crate::node::{Node, Phase, State};
 use crate::segment::Segment;
 
@@ -25,12 +28,23 @@ pub struct Filler<'a> {
     events: Vec<Event>,
     /// Rows in which a node stands ready for the last part.
     taken: Vec<Row>,
+    /// Whether there may be link orders: in a list, not in a script.
+    links: bool,
 }
 
 /// One more script, counted in `cover` as it is written.
 pub fn fill(cover: &mut Coverage, rng: &mut Prng) -> Vec<u8> {
+    filled(cover, rng, false).bytes
+}
+
+/// One more list, with link orders, counted in `cover` as it is written.
+pub fn fill_list(cover: &mut Coverage, rng: &mut Prng) -> Vec<Command> {
+    filled(cover, rng, true).list
+}
+
+fn filled(cover: &mut Coverage, rng: &mut Prng, links: bool) -> Draft {
     let (draft, events, taken) = (Draft::new(), Event::all(), vec![]);
-    let mut filler = Filler { draft, cover, rng, events, taken };
+    let mut filler = Filler { draft, cover, rng, events, taken, links };
     for _ in 0..NODES {
         let index = filler.rng.below(Segment::PLACES) as u8;
         filler.power_on(index);
@@ -38,7 +52,7 @@ pub fn fill(cover: &mut Coverage, rng: &mut Prng) -> Vec<u8> {
     while !filler.is_long_enough() && filler.step() {}
     filler.jam();
     filler.cover.end_script(&filler.draft.segment);
-    filler.draft.bytes
+    filler.draft
 }
 
 impl Filler<'_> {
@@ -52,7 +66,7 @@ impl Filler<'_> {
     }
 
     fn push(&mut self, command: Command) {
-        command.write(&mut self.draft.bytes);
+        self.draft.write(&command);
         let _ = self.cover.carry_out(&mut self.draft.segment, &command);
     }
 
@@ -66,7 +80,8 @@ impl Filler<'_> {
     }
 
     fn is_missing(&self, row: Row, event: Event) -> bool {
-        impossible(row, event).is_none() && !self.cover.cells.contains_key(&(row, event))
+        let reachable = impossible(row, event).is_none() && (self.links || in_scripts(row, event));
+        reachable && !self.cover.cells.contains_key(&(row, event))
     }
 
     /// Missing, and not done already by a node that has yet to show it.
@@ -80,13 +95,24 @@ impl Filler<'_> {
         events.filter(|&event| self.is_wanted(row, event)).collect()
     }
 
+    /// Whether an event can be done at a node with the link state that it has.
+    fn fits(&self, index: u8, event: Event) -> bool {
+        !matches!(event, Event::Link { was, .. } if was != self.link(index))
+    }
+
+    fn link(&self, index: u8) -> Link {
+        self.draft.segment.node(usize::from(index)).link_state()
+    }
+
     /// Does one wanted thing, or moves towards one; false if there is nothing left to do.
     fn step(&mut self) -> bool {
         self.make_room();
         let (mut gentle, mut harsh) = (vec![], vec![]);
+        let mut wanted = BTreeMap::new();
         for index in 0..Segment::PLACES as u8 {
             let row = self.row(index);
-            for event in self.wanted(row) {
+            let events: &Vec<Event> = wanted.entry(row).or_insert_with(|| self.wanted(row));
+            for &event in events.iter().filter(|&&event| self.fits(index, event)) {
                 let side = if changes(row, event) { &mut harsh } else { &mut gentle };
                 side.push((index, event));
             }
@@ -108,7 +134,8 @@ impl Filler<'_> {
     fn perform_gentle(&mut self, index: u8) {
         let row = self.row(index);
         for event in self.wanted(row) {
-            if self.row(index) == row && !changes(row, event) {
+            let fits = self.row(index) == row && self.fits(index, event);
+            if fits && !changes(row, event) {
                 self.make_room();
                 self.perform(index, event);
             }
@@ -174,6 +201,12 @@ impl Filler<'_> {
             }
             Event::BusFrame => self.bus_frame(index),
             Event::ForeignFrame => self.push(idle()),
+            Event::Link { is, .. } => self.tell(index, is),
+            Event::LinkRefused(_) => {
+                let any = self.rng.between(3, 255) as u8;
+                let state = self.rng.pick(&[3, 3, 255, any]);
+                self.push(Command::Link { index, state });
+            }
         }
     }
 
@@ -195,6 +228,20 @@ impl Filler<'_> {
             8 => self.enquire(index, 0),
             _ => self.push(Command::Release { index }),
         }
+    }
+
+    fn tell(&mut self, index: u8, link: Link) {
+        self.push(Command::Link { index, state: link.number() });
+    }
+
+    /// A link state that is reported in Permitted.
+    fn tell_to_report(&mut self, index: u8) {
+        let next = match self.link(index) {
+            Link::ErrorActive => Link::ErrorPassive,
+            Link::ErrorPassive => Link::ErrorActive,
+            Link::BusOff => self.rng.pick(&[Link::ErrorActive, Link::ErrorPassive]),
+        };
+        self.tell(index, next);
     }
 
     fn order_message(&mut self, index: u8, malformed: bool) {
@@ -244,7 +291,7 @@ impl Filler<'_> {
 
     /// Nothing is wanted where the nodes stand: one of them goes on.
     fn advance(&mut self) -> bool {
-        if self.only_jams_left() && (self.any_to_jam() || !self.any_on_the_way()) {
+        if (self.any_to_jam() || !self.any_on_the_way()) && self.only_jams_left() {
             return false;
         }
         let on = self.draft.on();
@@ -263,8 +310,13 @@ impl Filler<'_> {
         true
     }
 
-    /// Nodes past the wait first, so that those before it go through it together.
+    /// Nodes past the wait first, so that those before it go through it together. In a list some
+    /// get another link state instead.
     fn go_on(&mut self, on: &[u8]) {
+        if self.links && self.rng.percent(20) {
+            let (index, link) = (self.rng.pick(on), self.rng.pick(&Link::ALL));
+            return self.tell(index, link);
+        }
         let those = |good: &dyn Fn(Row) -> bool| -> Vec<u8> {
             on.iter().copied().filter(|&index| good(self.row(index))).collect()
         };
@@ -321,9 +373,9 @@ impl Filler<'_> {
     fn move_permitted(&mut self, index: u8) {
         let row = self.row(index);
         let count = |which| permitted_after(row, which).map_or(0, |next| self.wanted(next).len());
-        let counts = [0, 1, 2, 3, 4, 5, 6].map(count);
+        let counts = [0, 1, 2, 3, 4, 5, 6, 7].map(count);
         let most = counts.into_iter().max().unwrap_or(0);
-        let best: Vec<usize> = (0..7).filter(|&which| counts[which] == most).collect();
+        let best: Vec<usize> = (0..8).filter(|&which| counts[which] == most).collect();
         let far = self.towards(row, |goal| !self.wanted(goal).is_empty());
         let which = match far {
             _ if most > 0 => self.rng.pick(&best),
@@ -342,10 +394,10 @@ impl Filler<'_> {
                 |&goal: &Row| next.is_some_and(|next| includes(goal, next)) && reached(goal);
             Row::all().iter().any(wanted)
         };
-        (0..4).find(leads)
+        [0, 1, 2, 3, 7].into_iter().find(leads)
     }
 
-    /// CID, AME, AMD, message, the due frame leaves, release, collision.
+    /// CID, AME, AMD, message, the due frame leaves, release, collision, error report.
     fn move_by(&mut self, index: u8, which: usize) {
         match which {
             0 => self.perform(index, Event::Deliver(Case::OwnCid)),
@@ -354,6 +406,7 @@ impl Filler<'_> {
             3 => self.order_message(index, false),
             5 => self.push(Command::Release { index }),
             6 => self.perform(index, Event::Deliver(Case::OwnMessage)),
+            7 => self.tell_to_report(index),
             _ => self.push(Command::Send { index }),
         }
     }
@@ -425,6 +478,7 @@ fn changes(row: Row, event: Event) -> bool {
     let heed = match event {
         Event::Answer(1 | 2 | 7 | 9, 0) | Event::EnquiryTaken { .. } => return true,
         Event::Answer(3, 0) => return testing,
+        Event::Link { was, is } => return was != is,
         Event::Deliver(case) => Heed::of(case),
         Event::DeliverBit28Clear(heed) | Event::DeliverAliasZero(heed) => Some(heed),
         _ => None,
@@ -441,7 +495,9 @@ fn changes(row: Row, event: Event) -> bool {
 
 /// Where a Permitted node comes to by each way that `move_by` knows.
 fn permitted_after(row: Row, which: usize) -> Option<Row> {
-    let Row::Permitted { mut reply, mut amd, mut report, mut host } = row else { return None };
+    let Row::Permitted { mut reply, mut amd, mut report, mut error, mut host } = row else {
+        return None;
+    };
     match which {
         0 => reply = true,
         1 => amd = true,
@@ -449,19 +505,23 @@ fn permitted_after(row: Row, which: usize) -> Option<Row> {
         3 => host = true,
         5 => return Some(Row::Leaving { released: true }),
         6 => return Some(Row::Leaving { released: false }),
+        7 => error = true,
         _ if reply => reply = false,
         _ if amd => amd = false,
         _ if report => return Some(Row::Silent),
+        _ if error => error = false,
         _ => host = false,
     }
-    let next = Row::Permitted { reply, amd, report, host };
+    let next = Row::Permitted { reply, amd, report, error, host };
     (next != row).then_some(next)
 }
 
 /// Whether all that waits in one Permitted row waits in the other too.
 fn includes(more: Row, less: Row) -> bool {
     let waits = |row| match row {
-        Row::Permitted { reply, amd, report, host } => Some([reply, amd, report, host]),
+        Row::Permitted { reply, amd, report, error, host } => {
+            Some([reply, amd, report, error, host])
+        }
         _ => None,
     };
     match (waits(more), waits(less)) {

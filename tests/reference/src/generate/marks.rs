@@ -289,7 +289,7 @@ impl Marks {
 
     /// What the answer and the state after a command tell.
     pub fn count_after(&mut self, segment: &Segment, command: &Command, answer: &Answer) {
-        let byte = command.byte();
+        let Some(byte) = command.byte() else { return };
         match answer {
             Ok(_) => {
                 self.count(Mark::Answer(byte, 0));

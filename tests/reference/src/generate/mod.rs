@@ -1,10 +1,12 @@
-//! Scripts made from a seed, the coverage they reach, and the stored corpora.
+//! Scripts and lists made from a seed, the coverage they reach, and the stored corpora.
 
 pub mod cases;
 pub mod corpus;
 pub mod coverage;
 pub mod draft;
 pub mod filler;
+pub mod link_lists;
+pub mod link_marks;
 pub mod map_corpus;
 pub mod marks;
 pub mod prng;

@@ -116,8 +116,8 @@ fn standard_frames() -> Vec<u8> {
     draft.bytes
 }
 
-/// A node alone, in this state, with an empty inbox and nothing that ages but an AMR.
-fn in_state(state: State) -> Draft {
+/// A node alone, at index 3, in this state, with an empty inbox and nothing that ages but an AMR.
+pub(crate) fn in_state(state: State) -> Draft {
     let mut draft = Draft::new();
     draft.power_on(3, ID);
     match state {

@@ -1,4 +1,4 @@
-//! Random scripts, guided by the segment they make: kept ones and late ones.
+//! Random scripts and lists, guided by the segment they make: kept ones and late ones.
 
 use crate::alias::{Alias, MAX_48};
 use crate::command::Command;
@@ -23,6 +23,8 @@ pub struct Temper {
     pub tick_run: usize,
     /// Weights: power-on, send, failed send, deliver, ticks, foreign, host order, oddity.
     pub weights: [usize; 8],
+    /// So many in a hundred steps are link orders: none in a script, which cannot carry them.
+    pub links: usize,
 }
 
 impl Temper {
@@ -44,6 +46,7 @@ impl Temper {
             commands,
             tick_run: rng.pick(&[1, 5, 40, 41, 60]),
             weights,
+            links: 0,
         }
     }
 }
@@ -80,20 +83,31 @@ pub struct Walker<'a> {
     pub most_users: usize,
     /// Whether one node tested an alias that another used, while the list was kept.
     pub contested: bool,
+    /// Whether an error report waited while the list was kept.
+    pub reported: bool,
 }
 
 /// A script of this temper.
 pub fn walk(rng: &mut Prng, temper: Temper) -> Vec<u8> {
-    let mut walker = Walker::new(rng, temper);
-    walker.run();
-    walker.draft.bytes
+    walked(rng, temper).bytes
 }
 
-/// A script of this temper that goes on from what a draft has come to.
-pub fn walk_on(rng: &mut Prng, temper: Temper, draft: Draft) -> Vec<u8> {
+/// A list of this temper.
+pub fn walk_list(rng: &mut Prng, temper: Temper) -> Vec<Command> {
+    walked(rng, temper).list
+}
+
+/// A list of this temper that goes on from what a draft has come to.
+pub fn walk_list_on(rng: &mut Prng, temper: Temper, draft: Draft) -> Vec<Command> {
     let mut walker = Walker { draft, ..Walker::new(rng, temper) };
     walker.steps();
-    walker.draft.bytes
+    walker.draft.list
+}
+
+fn walked(rng: &mut Prng, temper: Temper) -> Draft {
+    let mut walker = Walker::new(rng, temper);
+    walker.run();
+    walker.draft
 }
 
 impl<'a> Walker<'a> {
@@ -106,6 +120,7 @@ impl<'a> Walker<'a> {
             claim_held: true,
             most_users: 0,
             contested: false,
+            reported: false,
         }
     }
 
@@ -129,20 +144,25 @@ impl<'a> Walker<'a> {
         self.commands += 1;
         if !self.draft.segment.is_late() {
             self.claim_held &= claim_holds(&self.draft.segment);
-            self.watch_users();
+            self.watch_nodes();
         }
     }
 
-    fn watch_users(&mut self) {
+    fn watch_nodes(&mut self) {
         let nodes = || (0..Segment::PLACES).map(|place| self.draft.segment.node(place));
         let users: Vec<Alias> = nodes().filter_map(Node::used_alias).collect();
         let contested = nodes().filter_map(Node::tested_alias).any(|alias| users.contains(&alias));
+        let reported = nodes().any(|node| node.waiting().error.is_some());
         self.most_users = self.most_users.max(users.len());
         self.contested |= contested;
+        self.reported |= reported;
     }
 
     fn step(&mut self) {
         let index = self.rng.below(self.temper.nodes) as u8;
+        if self.temper.links > 0 && self.rng.percent(self.temper.links) {
+            return self.link_order(index);
+        }
         match self.rng.weighted(&self.temper.weights.clone()) {
             0 => self.newcomer(index),
             1 => self.send_some(index),
@@ -273,6 +293,17 @@ impl<'a> Walker<'a> {
                 self.push(Command::Enquiry { index, len, id });
             }
         }
+    }
+
+    /// A link state, mostly of a Permitted node, where it can be reported.
+    fn link_order(&mut self, index: u8) {
+        let permitted = self.seek(index, |i| self.draft.state(i) == State::Permitted);
+        let (high, any) = (self.rng.pick(&[24, 25, 128, 255]), self.rng.byte());
+        let index = if self.rng.percent(50) { permitted } else { index };
+        let index = if self.rng.percent(2) { high } else { index };
+        let above = self.rng.pick(&[3, any]);
+        let state = self.rng.pick(&[0, 0, 0, 0, 1, 1, 1, 1, 2, 2, 2, above]);
+        self.push(Command::Link { index, state });
     }
 
     /// Commands that are refused, mostly.

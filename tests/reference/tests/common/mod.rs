@@ -1,0 +1,30 @@
+//! A node brought to a state, for the tests of single points.
+
+use reference::generate::draft::Draft;
+use reference::{Refusal, State};
+
+pub const ID: u64 = 0x0501_0101_0101;
+
+/// One node at index 0, in this state.
+pub fn in_state(state: State) -> Draft {
+    let mut draft = Draft::new();
+    draft.power_on(0, ID);
+    let goal = if state == State::Reserved { State::Reserved } else { State::Permitted };
+    if state != State::Testing {
+        draft.bring_all(&[0], goal);
+    }
+    match state {
+        State::Leaving => drop(draft.release(0)),
+        State::Resting => drop(draft.release(0).send(0)),
+        State::Silent => drop(draft.foreign_amd_of(0).deliver(0).send(0)),
+        _ => {}
+    }
+    assert_eq!(draft.state(0), state);
+    assert!(!draft.segment.is_late());
+    draft
+}
+
+/// The refusal of the last command, 0 where it was accepted.
+pub fn refusal(draft: &Draft) -> u8 {
+    draft.answer.err().map_or(0, Refusal::number)
+}
