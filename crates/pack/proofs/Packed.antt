@@ -7,10 +7,11 @@ use lib.Dec.{ltb, eqb}
 use Rattle.node.specs.Rules.{isOff, linkOf}
 use Rattle.headers.specs.declared.frame.Frame.{Frame}
 use Rattle.node.specs.declared.Node.{Node}
+use Rattle.state.specs.declared.Phase.{Phase}
 use Rattle.state.specs.declared.Phase.the-variants.{Off, Testing, Reserved, Permitted, Leaving, Resting, Silent}
 use Rattle.state.specs.declared.Reason.the-variants.{Collision, Release}
 use Rattle.state.specs.declared.Host.the-variants.{Message, Enquiry}
-use Rattle.pack.specs.Words.{frameFrom, round, stampIn, phaseFrom, phaseAt, phaseIn, errorFrom, hostFrom, hostAt, StateOf}
+use Rattle.pack.specs.Words.{frameFrom, round, stampIn, phaseFrom, phaseAt, phaseIn, errorFrom, hostFrom, hostAt, StateOf, Rephased}
 
 -- the lowest digit of a number
 digit : (q s n : ℕ) → s < 2 ^ 8 → q ≡ s + 2 ^ 8 * n → q % 2 ^ 8 ≡ s
@@ -144,6 +145,53 @@ state-of n w a r m o e k l p (ea, ha) (er, hr) (em, hm) (eo, ho) (ee, he) (ek, h
       alias = λ i. record { 0 = ea′ i };
       phase = ap phaseAt (low-19 (w / 2 ^ 24) p hp p′) ∙ ep;
       waiting = λ i. record { reply = er′ i; amd = em′ i; report = eo′ i; error = ee′ i; host = n .waiting .host };
+    }
+
+-- what stands below the phase stays: x, with anything above it
+same-2 : (a b x y z : ℕ) → a ≡ x + 2 * y → b ≡ x + 2 * z → a % 2 ≡ b % 2
+same-2 a b x y z ea eb = omega arith
+
+same-4 : (a b x y z : ℕ) → a ≡ x + 4 * y → b ≡ x + 4 * z → a % 4 ≡ b % 4
+same-4 a b x y z ea eb = omega arith
+
+same-8 : (a b x y z : ℕ) → a ≡ x + 8 * y → b ≡ x + 8 * z → a % 8 ≡ b % 8
+same-8 a b x y z ea eb = omega arith
+
+low-16-of : (a b x y z : ℕ) → a ≡ x + 2 ^ 24 * y → b ≡ x + 2 ^ 24 * z → a % 2 ^ 16 ≡ b % 2 ^ 16
+low-16-of a b x y z ea eb = omega arith
+
+above-16 : (a x y : ℕ) → a ≡ x + 2 ^ 24 * y → a / 2 ^ 16 ≡ x / 2 ^ 16 + 2 * (2 ^ 7 * y)
+above-16 a x y e = omega arith
+
+above-17 : (a x y : ℕ) → a ≡ x + 2 ^ 24 * y → a / 2 ^ 17 ≡ x / 2 ^ 17 + 2 * (2 ^ 6 * y)
+above-17 a x y e = omega arith
+
+above-18 : (a x y : ℕ) → a ≡ x + 2 ^ 24 * y → a / 2 ^ 18 ≡ x / 2 ^ 18 + 2 * (2 ^ 5 * y)
+above-18 a x y e = omega arith
+
+above-19 : (a x y : ℕ) → a ≡ x + 2 ^ 24 * y → a / 2 ^ 19 ≡ x / 2 ^ 19 + 8 * (2 ^ 2 * y)
+above-19 a x y e = omega arith
+
+above-22 : (a x y : ℕ) → a ≡ x + 2 ^ 24 * y → a / 2 ^ 22 ≡ x / 2 ^ 22 + 4 * y
+above-22 a x y e = omega arith
+
+pub rephased : (w r p : ℕ) (x : Phase) → (phaseAt p ≡ x) × (p < 2 ^ 19) → r ≡ w % 2 ^ 24 + 2 ^ 24 * p → Rephased w x r
+rephased w r p x (ep, hp) er =
+    let x : ℕ = w % 2 ^ 24 in
+    let y : ℕ = w / 2 ^ 24 in
+    let ew : w ≡ x + 2 ^ 24 * y = omega arith in
+    let p′ : r / 2 ^ 24 ≡ p = omega arith in
+    let a′ : r % 2 ^ 16 ≡ w % 2 ^ 16 = low-16-of r w x p y er ew in
+    let r′ : r / 2 ^ 16 % 2 ≡ w / 2 ^ 16 % 2 = same-2 (r / 2 ^ 16) (w / 2 ^ 16) (x / 2 ^ 16) _ _ (above-16 r x p er) (above-16 w x y ew) in
+    let m′ : r / 2 ^ 17 % 2 ≡ w / 2 ^ 17 % 2 = same-2 (r / 2 ^ 17) (w / 2 ^ 17) (x / 2 ^ 17) _ _ (above-17 r x p er) (above-17 w x y ew) in
+    let o′ : r / 2 ^ 18 % 2 ≡ w / 2 ^ 18 % 2 = same-2 (r / 2 ^ 18) (w / 2 ^ 18) (x / 2 ^ 18) _ _ (above-18 r x p er) (above-18 w x y ew) in
+    let e′ : r / 2 ^ 19 % 8 ≡ w / 2 ^ 19 % 8 = same-8 (r / 2 ^ 19) (w / 2 ^ 19) (x / 2 ^ 19) _ _ (above-19 r x p er) (above-19 w x y ew) in
+    let l′ : r / 2 ^ 22 % 4 ≡ w / 2 ^ 22 % 4 = same-4 (r / 2 ^ 22) (w / 2 ^ 22) (x / 2 ^ 22) _ _ (above-22 r x p er) (above-22 w x y ew) in
+    record {
+      link = ap linkOf l′;
+      alias = λ i. record { 0 = a′ i };
+      phase = ap phaseAt (low-19 (r / 2 ^ 24) p hp p′) ∙ ep;
+      waiting = λ h i. record { reply = eqb (r′ i) 1; amd = eqb (m′ i) 1; report = eqb (o′ i) 1; error = errorFrom (e′ i); host = h };
     }
 
 -- the phase's tag alone says whether it is Off

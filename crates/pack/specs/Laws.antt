@@ -1,12 +1,15 @@
--- A node's words: those that are alike hold one node, a node comes back from its own, and words of 0 hold one that is Off.
+-- A node's words: those that are alike hold one node, or one in another phase; a node comes back from its own; and words of 0
+-- hold one that is Off.
 use mathlib.Core.Path.{_≡_, refl, ap, _∙_}
+use mathlib.Core.Logic.{_≢_}
 use mathlib.Core.List.{List, [], _∷_}
 use Prim.Native.Nat.{ℕ, _<_}
 use native.Mathlib.Omega.{arith}
 use lib.ListN.{getD}
-use Rattle.node.specs.Rules.{offNode}
+use Rattle.node.specs.Rules.{offNode, counted}
 use Rattle.node.specs.declared.Node.{Node}
-use Rattle.pack.specs.Words.{aliasFrom, linkIn, phaseAt, phaseIn, hostAt, hostBytes, waitingFrom, nodeWords, nodeFrom, StateOf}
+use Rattle.state.specs.declared.Phase.{Phase}
+use Rattle.pack.specs.Words.{aliasFrom, linkIn, phaseAt, phaseIn, hostAt, hostBytes, waitingFrom, nodeWords, nodeFrom, StateOf, Rephased}
 
 pub node-same : (v w : ℕ → ℕ) → ((j : ℕ) → j < nodeWords → v j ≡ w j) → nodeFrom v ≡ nodeFrom w
 node-same v w e = λ i. record {
@@ -15,6 +18,17 @@ node-same v w e = λ i. record {
   alias = aliasFrom (e 2 (omega arith) i);
   phase = phaseIn (e 2 (omega arith) i);
   waiting = waitingFrom (e 2 (omega arith) i) (hostAt (e 3 (omega arith) i) (e 4 (omega arith) i));
+}
+
+-- those that are alike but for the phase, in word 2
+pub node-phased : (v w : ℕ → ℕ) (p : Phase) → ((j : ℕ) → j < nodeWords → j ≢ 2 → v j ≡ w j) → Rephased (w 2) p (v 2) → nodeFrom v ≡ counted (nodeFrom w) p
+unfolding counted
+node-phased v w p e r = λ i. record {
+  own = record { id = e 0 (omega arith) (omega arith) i; link = r .link i };
+  generator = e 1 (omega arith) (omega arith) i;
+  alias = r .alias i;
+  phase = r .phase i;
+  waiting = (ap (waitingFrom (v 2)) (λ j. hostAt (e 3 (omega arith) (omega arith) j) (e 4 (omega arith) (omega arith) j)) ∙ r .waiting (hostAt (w 3) (w 4))) i;
 }
 
 -- a node's words, those of its state and of the host's order given

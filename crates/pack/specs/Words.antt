@@ -98,6 +98,13 @@ pub record StateOf (n : Node) (w : ℕ) : Type 0 where
   pub phase : phaseIn w ≡ n .phase
   pub waiting : waitingFrom w (n .waiting .host) ≡ n .waiting
 
+-- The word w says so, and r says the same but for the phase, which is p.
+pub record Rephased (w : ℕ) (p : Phase) (r : ℕ) : Type 0 where
+  pub link : linkIn r ≡ linkIn w
+  pub alias : aliasFrom r ≡ aliasFrom w
+  pub phase : phaseIn r ≡ p
+  pub waiting : (h : Host) → waitingFrom r h ≡ waitingFrom w h
+
 -- AGES
 
 -- The clock counts ticks, and goes round. A stamp is what it read when an age began.

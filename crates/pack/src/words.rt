@@ -12,7 +12,7 @@ use state::Waiting;
 ghost use mathlib.Core.Path.{_≡_};
 ghost use Prim.Native.Nat.{_%_, _^_, _<_};
 ghost use lib.Dec.{eqb};
-ghost use Rattle.pack.specs.Words.{frameFrom, aliasFrom, linkIn, phaseAt, phaseIn, replyIn, errorFrom, waitingFrom, hostAt, hostBytes, StateOf, round, stampIn};
+ghost use Rattle.pack.specs.Words.{frameFrom, aliasFrom, linkIn, phaseAt, phaseIn, replyIn, errorFrom, waitingFrom, hostAt, hostBytes, StateOf, Rephased, round, stampIn};
 ghost use Rattle.node.specs.Rules.{isOff};
 
 fn wide8(x: u8) -> u64
@@ -222,6 +222,14 @@ pub fn state_word(n: Node) -> u64
     let phase = n.phase;
     let p = phase_word(phase);
     a + 0x1_0000 * r + 0x2_0000 * m + 0x4_0000 * o + 0x8_0000 * e + 0x40_0000 * l + 0x100_0000 * p
+}
+
+// That word with another phase.
+pub fn with_phase(w: u64, phase: Phase) -> u64
+    ensures { λ r. ⌜ Rephased w phase r ⌝ }
+{
+    let p = phase_word(phase);
+    w % 0x100_0000 + 0x100_0000 * p
 }
 
 pub fn alias_in(w: u64) -> Alias
