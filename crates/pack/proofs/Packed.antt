@@ -4,6 +4,7 @@ use Prim.Native.Nat.{ℕ, _+_, _*_, _/_, _%_, _^_, _<_}
 use native.Mathlib.Omega.{arith}
 use mathlib.Core.Bool.{Bool, true, false, cond}
 use lib.Dec.{ltb, eqb}
+use lib.Pow.{field, mod-mod-pow}
 use Rattle.node.specs.Rules.{isOff, linkOf}
 use Rattle.headers.specs.declared.frame.Frame.{Frame}
 use Rattle.node.specs.declared.Node.{Node}
@@ -147,46 +148,23 @@ state-of n w a r m o e k l p (ea, ha) (er, hr) (em, hm) (eo, ho) (ee, he) (ek, h
       waiting = λ i. record { reply = er′ i; amd = em′ i; report = eo′ i; error = ee′ i; host = n .waiting .host };
     }
 
--- what stands below the phase stays: x, with anything above it
-same-2 : (a b x y z : ℕ) → a ≡ x + 2 * y → b ≡ x + 2 * z → a % 2 ≡ b % 2
-same-2 a b x y z ea eb = omega arith
-
-same-4 : (a b x y z : ℕ) → a ≡ x + 4 * y → b ≡ x + 4 * z → a % 4 ≡ b % 4
-same-4 a b x y z ea eb = omega arith
-
-same-8 : (a b x y z : ℕ) → a ≡ x + 8 * y → b ≡ x + 8 * z → a % 8 ≡ b % 8
-same-8 a b x y z ea eb = omega arith
-
-low-16-of : (a b x y z : ℕ) → a ≡ x + 2 ^ 24 * y → b ≡ x + 2 ^ 24 * z → a % 2 ^ 16 ≡ b % 2 ^ 16
-low-16-of a b x y z ea eb = omega arith
-
-above-16 : (a x y : ℕ) → a ≡ x + 2 ^ 24 * y → a / 2 ^ 16 ≡ x / 2 ^ 16 + 2 * (2 ^ 7 * y)
-above-16 a x y e = omega arith
-
-above-17 : (a x y : ℕ) → a ≡ x + 2 ^ 24 * y → a / 2 ^ 17 ≡ x / 2 ^ 17 + 2 * (2 ^ 6 * y)
-above-17 a x y e = omega arith
-
-above-18 : (a x y : ℕ) → a ≡ x + 2 ^ 24 * y → a / 2 ^ 18 ≡ x / 2 ^ 18 + 2 * (2 ^ 5 * y)
-above-18 a x y e = omega arith
-
-above-19 : (a x y : ℕ) → a ≡ x + 2 ^ 24 * y → a / 2 ^ 19 ≡ x / 2 ^ 19 + 8 * (2 ^ 2 * y)
-above-19 a x y e = omega arith
-
-above-22 : (a x y : ℕ) → a ≡ x + 2 ^ 24 * y → a / 2 ^ 22 ≡ x / 2 ^ 22 + 4 * y
-above-22 a x y e = omega arith
+-- what stands below the phase goes by the 24 low digits: j digits from k on, with l above them
+low-field : (r w l j k : ℕ) → r % 2 ^ (l + (j + k)) ≡ w % 2 ^ (l + (j + k)) → r / 2 ^ k % 2 ^ j ≡ w / 2 ^ k % 2 ^ j
+low-field r w l j k e =
+    sym (field r j k)
+    ∙ ap (λ (x : ℕ). x / 2 ^ k) (sym (mod-mod-pow r l (j + k)) ∙ ap (λ (x : ℕ). x % 2 ^ (j + k)) e ∙ mod-mod-pow w l (j + k))
+    ∙ field w j k
 
 pub rephased : (w r p : ℕ) (x : Phase) → (phaseAt p ≡ x) × (p < 2 ^ 19) → r ≡ w % 2 ^ 24 + 2 ^ 24 * p → Rephased w x r
 rephased w r p x (ep, hp) er =
-    let x : ℕ = w % 2 ^ 24 in
-    let y : ℕ = w / 2 ^ 24 in
-    let ew : w ≡ x + 2 ^ 24 * y = omega arith in
+    let low : r % 2 ^ 24 ≡ w % 2 ^ 24 = omega arith in
     let p′ : r / 2 ^ 24 ≡ p = omega arith in
-    let a′ : r % 2 ^ 16 ≡ w % 2 ^ 16 = low-16-of r w x p y er ew in
-    let r′ : r / 2 ^ 16 % 2 ≡ w / 2 ^ 16 % 2 = same-2 (r / 2 ^ 16) (w / 2 ^ 16) (x / 2 ^ 16) _ _ (above-16 r x p er) (above-16 w x y ew) in
-    let m′ : r / 2 ^ 17 % 2 ≡ w / 2 ^ 17 % 2 = same-2 (r / 2 ^ 17) (w / 2 ^ 17) (x / 2 ^ 17) _ _ (above-17 r x p er) (above-17 w x y ew) in
-    let o′ : r / 2 ^ 18 % 2 ≡ w / 2 ^ 18 % 2 = same-2 (r / 2 ^ 18) (w / 2 ^ 18) (x / 2 ^ 18) _ _ (above-18 r x p er) (above-18 w x y ew) in
-    let e′ : r / 2 ^ 19 % 8 ≡ w / 2 ^ 19 % 8 = same-8 (r / 2 ^ 19) (w / 2 ^ 19) (x / 2 ^ 19) _ _ (above-19 r x p er) (above-19 w x y ew) in
-    let l′ : r / 2 ^ 22 % 4 ≡ w / 2 ^ 22 % 4 = same-4 (r / 2 ^ 22) (w / 2 ^ 22) (x / 2 ^ 22) _ _ (above-22 r x p er) (above-22 w x y ew) in
+    let a′ : r % 2 ^ 16 ≡ w % 2 ^ 16 = sym (mod-mod-pow r 8 16) ∙ ap (λ (x : ℕ). x % 2 ^ 16) low ∙ mod-mod-pow w 8 16 in
+    let r′ : r / 2 ^ 16 % 2 ≡ w / 2 ^ 16 % 2 = low-field r w 7 1 16 low in
+    let m′ : r / 2 ^ 17 % 2 ≡ w / 2 ^ 17 % 2 = low-field r w 6 1 17 low in
+    let o′ : r / 2 ^ 18 % 2 ≡ w / 2 ^ 18 % 2 = low-field r w 5 1 18 low in
+    let e′ : r / 2 ^ 19 % 8 ≡ w / 2 ^ 19 % 8 = low-field r w 2 3 19 low in
+    let l′ : r / 2 ^ 22 % 4 ≡ w / 2 ^ 22 % 4 = low-field r w 0 2 22 low in
     record {
       link = ap linkOf l′;
       alias = λ i. record { 0 = a′ i };
