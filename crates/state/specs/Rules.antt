@@ -107,7 +107,7 @@ errorWaits Report3 = true
 
 -- THE LINK STATE (A.1)
 
--- 0 Error Active, 1 Error Passive, 2 Bus Off. Above 2 it is refused.
+-- The host tells a node its link state: 0 Error Active, 1 Error Passive, 2 Bus Off. A number above 2 is refused.
 abbrev pub linkOf : ℕ → Link
 linkOf state = cond (eqb state 0) ErrorActive (cond (eqb state 1) ErrorPassive BusOff)
 

@@ -7,7 +7,8 @@ use headers::frame::Frame;
 use headers::header::Type;
 use headers::node_id::Section;
 ghost use mathlib.Core.Path.{_≡_};
-ghost use Prim.Native.Nat.{_<_};
+ghost use mathlib.Core.Bool.{true};
+ghost use Prim.Native.Nat.{ℕ, _<_};
 ghost use Rattle.state.specs.Answers.{dueAs};
 ghost use Rattle.state.specs.Rules.{
   sectionOf,
@@ -18,7 +19,9 @@ ghost use Rattle.state.specs.Rules.{
   ridFrame,
   amdFrame,
   amrFrame,
+  next,
   reportFrame,
+  errorWaits,
   errorFrame,
   errorDue,
   hostDue,
@@ -116,6 +119,19 @@ pub fn duplicate_report(alias: Alias) -> Frame
     }
 }
 
+// The number of the error report that waits.
+fn error_number(e: Error) -> u16
+    ensures { λ r. ⌜ (r < 4) × (errorWaits e ≡ true → (id a : ℕ) → errorDue e id a ≡ next (errorFrame r id a)) ⌝ }
+{
+    match e {
+        Error::NoReport => 0,
+        Error::Report0 => 0,
+        Error::Report1 => 1,
+        Error::Report2 => 2,
+        Error::Report3 => 3,
+    }
+}
+
 // The error report with this number.
 fn error_report(number: u16, id: u64, alias: Alias) -> Frame
     requires { ⌜ number < 4 ⌝ }
@@ -131,13 +147,10 @@ fn error_report(number: u16, id: u64, alias: Alias) -> Frame
 pub fn error_due(e: Error, id: u64, alias: Alias) -> Due
     ensures { λ r. ⌜ dueAs r ≡ errorDue e id (alias .0) ⌝ }
 {
-    match e {
-        Error::NoReport => Due::Nothing,
-        Error::Report0 => Due::Next(error_report(0, id, alias)),
-        Error::Report1 => Due::Next(error_report(1, id, alias)),
-        Error::Report2 => Due::Next(error_report(2, id, alias)),
-        Error::Report3 => Due::Next(error_report(3, id, alias)),
+    if e.is_waiting() {
+        return Due::Next(error_report(error_number(e), id, alias));
     }
+    Due::Nothing
 }
 
 // The host frame: what the host ordered, if anything.

@@ -1,4 +1,6 @@
-use mathlib.Core.Path.{refl}
+use mathlib.Core.Path.{_∙_, sym, ap}
+use Rattle.state.specs.Rules.{next}
+use Rattle.state.proofs.Errors.{none-due}
 use borrow.Author.Needs.{needs}
 use Rattle.state.proofs.frames.error_due.Statement.{statement}
 use Rattle.state.proofs.frames.error_due.Tie as tie
@@ -6,17 +8,8 @@ use Rattle.state.proofs.frames.error_due.Tie as tie
 pub error-due-spec : {M : Type 1} → statement M
 error-due-spec =
     tie.close (tie.spec
-    (λ c. search needs)
-    (λ c. search needs)
     (λ c κs. search needs)
-    (λ c. search needs)
     (λ c κs. search needs)
-    (λ c. search needs)
     (λ c κs. search needs)
-    (λ c. search needs)
-    (λ c κs. search needs)
-    (λ c. rw (c .enum-told .given .1) refl)
-    (λ c. simp (c .error-report .ensures, c .before .enum-told2 .given .1) refl)
-    (λ c. simp (c .error-report2 .ensures, c .before .enum-told3 .given .1) refl)
-    (λ c. simp (c .error-report3 .ensures, c .before .enum-told4 .given .1) refl)
-    (λ c. simp (c .error-report4 .ensures, c .before .enum-told5 .given .1) refl))
+    (λ c. ap next (c .error-report .ensures) ∙ sym (c .before .error-number .ensures .1 (sym (c .before .before .before .is-waiting .ensures) ∙ c .before .before .if1 .taken) _ _))
+    (λ c. let q = c .before .before .args in none-due (q .e) (sym (c .before .is-waiting .ensures) ∙ c .if1 .left) (q .id) (q .alias .0)))
