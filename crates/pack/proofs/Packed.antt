@@ -4,7 +4,8 @@ use Prim.Native.Nat.{ℕ, _+_, _*_, _/_, _%_, _^_, _<_}
 use native.Mathlib.Omega.{arith}
 use mathlib.Core.Bool.{Bool, true, false, cond}
 use lib.Dec.{ltb, eqb}
-use lib.Pow.{field, mod-mod-pow}
+use lib.Pow.{low, field, mod-mod-pow}
+use native.Mathlib.Nat.{add-comm, mul-comm, mod-eq-of-lt}
 use Rattle.node.specs.Rules.{isOff, linkOf}
 use Rattle.headers.specs.declared.frame.Frame.{Frame}
 use Rattle.node.specs.declared.Node.{Node}
@@ -14,27 +15,12 @@ use Rattle.state.specs.declared.Reason.the-variants.{Collision, Release}
 use Rattle.state.specs.declared.Host.the-variants.{Message, Enquiry}
 use Rattle.pack.specs.Words.{frameFrom, round, stampIn, phaseFrom, phaseAt, phaseIn, errorFrom, hostFrom, hostAt, StateOf, Rephased}
 
--- the lowest digit of a number
-digit : (q s n : ℕ) → s < 2 ^ 8 → q ≡ s + 2 ^ 8 * n → q % 2 ^ 8 ≡ s
-digit q s n h e = omega arith
+-- the j low digits of a number, with n above them, or with nothing
+part : (j q s n : ℕ) → s < 2 ^ j → q ≡ s + 2 ^ j * n → q % 2 ^ j ≡ s
+part j q s n h e = ap (λ (x : ℕ). x % 2 ^ j) (e ∙ add-comm s (2 ^ j * n) ∙ ap (λ (x : ℕ). x + s) (mul-comm (2 ^ j) n)) ∙ low n j h
 
-bit-of : (q s n : ℕ) → s < 2 → q ≡ s + 2 * n → q % 2 ≡ s
-bit-of q s n h e = omega arith
-
-two-of : (q s n : ℕ) → s < 4 → q ≡ s + 4 * n → q % 4 ≡ s
-two-of q s n h e = omega arith
-
-three-of : (q s n : ℕ) → s < 8 → q ≡ s + 8 * n → q % 8 ≡ s
-three-of q s n h e = omega arith
-
-low-8 : (q s : ℕ) → s < 2 ^ 8 → q ≡ s → q % 2 ^ 8 ≡ s
-low-8 q s h e = omega arith
-
-low-19 : (q s : ℕ) → s < 2 ^ 19 → q ≡ s → q % 2 ^ 19 ≡ s
-low-19 q s h e = omega arith
-
-low-32 : (q s : ℕ) → s < 2 ^ 32 → q ≡ s → q % 2 ^ 32 ≡ s
-low-32 q s h e = omega arith
+whole : (j q s : ℕ) → s < 2 ^ j → q ≡ s → q % 2 ^ j ≡ s
+whole j q s h e = ap (λ (x : ℕ). x % 2 ^ j) e ∙ mod-eq-of-lt h
 
 -- frames
 
@@ -53,8 +39,8 @@ pub frame-back : (f : Frame) (w : ℕ) → f .kind < 2 ^ 8 → f .len < 2 ^ 8 �
 unfolding frameFrom
 frame-back f w hk hl hh e = λ i. record {
   kind = pack-kind (f .kind) (f .len) (f .header) w hk hl hh e i;
-  header = low-32 (w / 2 ^ 16) (f .header) hh (pack-header (f .kind) (f .len) (f .header) w hk hl hh e) i;
-  len = digit (w / 2 ^ 8) (f .len) (f .header) hl (pack-rest (f .kind) (f .len) (f .header) w hk hl hh e) i;
+  header = whole 32 (w / 2 ^ 16) (f .header) hh (pack-header (f .kind) (f .len) (f .header) w hk hl hh e) i;
+  len = part 8 (w / 2 ^ 8) (f .len) (f .header) hl (pack-rest (f .kind) (f .len) (f .header) w hk hl hh e) i;
   bytes = f .bytes;
 }
 
@@ -89,20 +75,17 @@ unfolding phaseAt
 phase-testing s w x y r (ex, hs) (ey, hw) e =
     let t : r % 8 ≡ 1 = omega arith in
     let a′ : r / 8 ≡ s + 2 ^ 8 * w = omega arith in
-    let a : r / 8 % 2 ^ 8 ≡ s = digit (r / 8) s w hs a′ in
+    let a : r / 8 % 2 ^ 8 ≡ s = part 8 (r / 8) s w hs a′ in
     let b′ : r / 2048 ≡ w = omega arith in
-    let b : r / 2048 % 2 ^ 8 ≡ w = low-8 (r / 2048) w hw b′ in
+    let b : r / 2048 % 2 ^ 8 ≡ w = whole 8 (r / 2048) w hw b′ in
     λ i. phaseFrom (t i) (a i) (b i)
 
 -- the host's order
 
-low-16 : (q s : ℕ) → s < 2 ^ 16 → q ≡ s → q % 2 ^ 16 ≡ s
-low-16 q s h e = omega arith
-
 pub host-message : (f l x y r b : ℕ) → (x ≡ l) × (l < 2 ^ 8) → (y ≡ f) × (f < 2 ^ 16) → r ≡ 1 + 2 ^ 8 * x + 2 ^ 16 * y
     → hostAt r b ≡ Message f l b
 unfolding hostAt
-host-message f l x y r b (ex, hl) (ey, hf) e = λ i. hostFrom (tag i) (low-16 (r / 2 ^ 16) f hf field i) (digit (r / 2 ^ 8) l f hl len i) b
+host-message f l x y r b (ex, hl) (ey, hf) e = λ i. hostFrom (tag i) (whole 16 (r / 2 ^ 16) f hf field i) (part 8 (r / 2 ^ 8) l f hl len i) b
   where
     is : r ≡ 1 + 2 ^ 8 * l + 2 ^ 16 * f
     is = omega arith
@@ -121,7 +104,7 @@ unfolding hostAt
 host-enquiry l x r b (ex, hl) e =
     let t : r % 2 ^ 8 ≡ 2 = omega arith in
     let q : r / 2 ^ 8 ≡ l = omega arith in
-    λ i. hostFrom (t i) (r / 2 ^ 16 % 2 ^ 16) (low-8 (r / 2 ^ 8) l hl q i) b
+    λ i. hostFrom (t i) (r / 2 ^ 16 % 2 ^ 16) (whole 8 (r / 2 ^ 8) l hl q i) b
 
 -- the word of alias, link state, phase and flags
 pub state-of : (n : Node) (w a r m o e k l p : ℕ) → (a ≡ n .alias .0) × (n .alias .0 < 2 ^ 16)
@@ -136,15 +119,15 @@ state-of n w a r m o e k l p (ea, ha) (er, hr) (em, hm) (eo, ho) (ee, he) (ek, h
     let o′ : w / 2 ^ 18 ≡ o + 2 * (e + 8 * (k + 4 * p)) = omega arith in
     let m′ : w / 2 ^ 17 ≡ m + 2 * (o + 2 * (e + 8 * (k + 4 * p))) = omega arith in
     let r′ : w / 2 ^ 16 ≡ r + 2 * (m + 2 * (o + 2 * (e + 8 * (k + 4 * p)))) = omega arith in
-    let er′ : eqb (w / 2 ^ 16 % 2) 1 ≡ n .waiting .reply = ap (λ (z : ℕ). eqb z 1) (bit-of (w / 2 ^ 16) r _ hr r′) ∙ er in
-    let em′ : eqb (w / 2 ^ 17 % 2) 1 ≡ n .waiting .amd = ap (λ (z : ℕ). eqb z 1) (bit-of (w / 2 ^ 17) m _ hm m′) ∙ em in
-    let eo′ : eqb (w / 2 ^ 18 % 2) 1 ≡ n .waiting .report = ap (λ (z : ℕ). eqb z 1) (bit-of (w / 2 ^ 18) o _ ho o′) ∙ eo in
-    let ee′ : errorFrom (w / 2 ^ 19 % 8) ≡ n .waiting .error = ap errorFrom (three-of (w / 2 ^ 19) e _ he e′) ∙ ee in
+    let er′ : eqb (w / 2 ^ 16 % 2) 1 ≡ n .waiting .reply = ap (λ (z : ℕ). eqb z 1) (part 1 (w / 2 ^ 16) r _ hr r′) ∙ er in
+    let em′ : eqb (w / 2 ^ 17 % 2) 1 ≡ n .waiting .amd = ap (λ (z : ℕ). eqb z 1) (part 1 (w / 2 ^ 17) m _ hm m′) ∙ em in
+    let eo′ : eqb (w / 2 ^ 18 % 2) 1 ≡ n .waiting .report = ap (λ (z : ℕ). eqb z 1) (part 1 (w / 2 ^ 18) o _ ho o′) ∙ eo in
+    let ee′ : errorFrom (w / 2 ^ 19 % 8) ≡ n .waiting .error = ap errorFrom (part 3 (w / 2 ^ 19) e _ he e′) ∙ ee in
     let ea′ : w % 2 ^ 16 ≡ n .alias .0 = omega arith in
     record {
-      link = ap linkOf (two-of (w / 2 ^ 22) k p (omega arith) k′) ∙ ek;
+      link = ap linkOf (part 2 (w / 2 ^ 22) k p (omega arith) k′) ∙ ek;
       alias = λ i. record { 0 = ea′ i };
-      phase = ap phaseAt (low-19 (w / 2 ^ 24) p hp p′) ∙ ep;
+      phase = ap phaseAt (whole 19 (w / 2 ^ 24) p hp p′) ∙ ep;
       waiting = λ i. record { reply = er′ i; amd = em′ i; report = eo′ i; error = ee′ i; host = n .waiting .host };
     }
 
@@ -157,18 +140,18 @@ low-field r w l j k e =
 
 pub rephased : (w r p : ℕ) (x : Phase) → (phaseAt p ≡ x) × (p < 2 ^ 19) → r ≡ w % 2 ^ 24 + 2 ^ 24 * p → Rephased w x r
 rephased w r p x (ep, hp) er =
-    let low : r % 2 ^ 24 ≡ w % 2 ^ 24 = omega arith in
+    let e24 : r % 2 ^ 24 ≡ w % 2 ^ 24 = omega arith in
     let p′ : r / 2 ^ 24 ≡ p = omega arith in
-    let a′ : r % 2 ^ 16 ≡ w % 2 ^ 16 = sym (mod-mod-pow r 8 16) ∙ ap (λ (x : ℕ). x % 2 ^ 16) low ∙ mod-mod-pow w 8 16 in
-    let r′ : r / 2 ^ 16 % 2 ≡ w / 2 ^ 16 % 2 = low-field r w 7 1 16 low in
-    let m′ : r / 2 ^ 17 % 2 ≡ w / 2 ^ 17 % 2 = low-field r w 6 1 17 low in
-    let o′ : r / 2 ^ 18 % 2 ≡ w / 2 ^ 18 % 2 = low-field r w 5 1 18 low in
-    let e′ : r / 2 ^ 19 % 8 ≡ w / 2 ^ 19 % 8 = low-field r w 2 3 19 low in
-    let l′ : r / 2 ^ 22 % 4 ≡ w / 2 ^ 22 % 4 = low-field r w 0 2 22 low in
+    let a′ : r % 2 ^ 16 ≡ w % 2 ^ 16 = sym (mod-mod-pow r 8 16) ∙ ap (λ (x : ℕ). x % 2 ^ 16) e24 ∙ mod-mod-pow w 8 16 in
+    let r′ : r / 2 ^ 16 % 2 ≡ w / 2 ^ 16 % 2 = low-field r w 7 1 16 e24 in
+    let m′ : r / 2 ^ 17 % 2 ≡ w / 2 ^ 17 % 2 = low-field r w 6 1 17 e24 in
+    let o′ : r / 2 ^ 18 % 2 ≡ w / 2 ^ 18 % 2 = low-field r w 5 1 18 e24 in
+    let e′ : r / 2 ^ 19 % 8 ≡ w / 2 ^ 19 % 8 = low-field r w 2 3 19 e24 in
+    let l′ : r / 2 ^ 22 % 4 ≡ w / 2 ^ 22 % 4 = low-field r w 0 2 22 e24 in
     record {
       link = ap linkOf l′;
       alias = λ i. record { 0 = a′ i };
-      phase = ap phaseAt (low-19 (r / 2 ^ 24) p hp p′) ∙ ep;
+      phase = ap phaseAt (whole 19 (r / 2 ^ 24) p hp p′) ∙ ep;
       waiting = λ h i. record { reply = eqb (r′ i) 1; amd = eqb (m′ i) 1; report = eqb (o′ i) 1; error = errorFrom (e′ i); host = h };
     }
 

@@ -1,6 +1,6 @@
 use mathlib.Core.Path.{_∙_, sym, refl}
 use Rattle.node.specs.Rules.{firstWaiting}
-use Rattle.node.proofs.Picks.{fourth, fifth}
+use Rattle.node.proofs.Picks.{fourth}
 use borrow.Author.Needs.{needs}
 use Rattle.node.proofs.Node.first_waiting.Statement.{statement}
 use Rattle.node.proofs.Node.first_waiting.Tie as tie
@@ -19,4 +19,4 @@ first-waiting-spec =
     (λ c κs. search needs)
     (λ c. c .error-due .ensures ∙ sym (fourth _ _ _ _ _ (c .before .before .before .before .before .if1 .left) (c .before .before .before .before .if2 .left) (c .before .before .before .if3 .left) (sym (c .before .before .is-waiting .ensures) ∙ c .before .if4 .taken)))
     (λ c κs. search needs)
-    (λ c. c .host-due .ensures ∙ sym (fifth _ _ _ _ _ (c .before .before .before .before .before .if1 .left) (c .before .before .before .before .if2 .left) (c .before .before .before .if3 .left) (sym (c .before .before .is-waiting .ensures) ∙ c .before .if4 .left))))
+    (λ c. c .host-due .ensures ∙ sym (fourth _ _ _ _ _ (c .before .before .before .before .before .if1 .left) (c .before .before .before .before .if2 .left) (c .before .before .before .if3 .left) (sym (c .before .before .is-waiting .ensures) ∙ c .before .if4 .left))))

@@ -1,5 +1,5 @@
 use mathlib.Core.Path.{_∙_, sym, refl}
-use Rattle.node.proofs.Picks.{second, fourth, fifth}
+use Rattle.node.proofs.Picks.{second, fourth}
 use Rattle.node.specs.Rules.{sentPermitted}
 use borrow.Author.Needs.{needs}
 use Rattle.node.proofs.Node.sent_permitted.Statement.{statement}
@@ -23,4 +23,4 @@ sent-permitted-spec =
     (λ c. simp (c .waits3 .ensures, c .before .with-error .ensures) (sym (fourth _ _ _ _ _ (c .before .before .before .before .before .before .if1 .left) (c .before .before .before .before .before .if2 .left) (c .before .before .before .before .if3 .left) (sym (c .before .before .before .is-waiting .ensures) ∙ c .before .before .if4 .taken))))
     (λ c κs. search needs)
     (λ c κs. search needs)
-    (λ c. simp (c .waits4 .ensures, c .before .with-host .ensures) (sym (fifth _ _ _ _ _ (c .before .before .before .before .before .before .if1 .left) (c .before .before .before .before .before .if2 .left) (c .before .before .before .before .if3 .left) (sym (c .before .before .before .is-waiting .ensures) ∙ c .before .before .if4 .left)))))
+    (λ c. simp (c .waits4 .ensures, c .before .with-host .ensures) (sym (fourth _ _ _ _ _ (c .before .before .before .before .before .before .if1 .left) (c .before .before .before .before .before .if2 .left) (c .before .before .before .before .if3 .left) (sym (c .before .before .before .is-waiting .ensures) ∙ c .before .before .if4 .left)))))
