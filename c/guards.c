@@ -213,6 +213,25 @@ static void links(size_t index) {
     REFUSED(CARD_REFUSED_NOTHING_DUE, card_send(T, index, SENT));
 }
 
+/* Other equipment has the node's Node ID: the report is due, its data the eight bytes of A.2, and then the node is silent. */
+static void duplicate(size_t index) {
+    const uint64_t event = UINT64_C(0x0101000000000201);
+    ACCEPTED(card_foreign(T, 0, UINT32_C(0x10701111), 6, ID << 16));
+    ACCEPTED(card_deliver(T, index));
+    look(index);
+    EXPECT(SEEN[CARD_SEEN_DUE_HEADER], 0x195B4263);
+    EXPECT(SEEN[CARD_SEEN_DUE_LEN], 8);
+    EXPECT(SEEN[CARD_SEEN_DUE_BYTES], event);
+    ACCEPTED(card_send(T, index, SENT));
+    EXPECT(SENT[CARD_SENT_HEADER], 0x195B4263);
+    EXPECT(SENT[CARD_SENT_LEN], 8);
+    EXPECT(SENT[CARD_SENT_BYTES], event);
+    REFUSED(CARD_REFUSED_NOTHING_DUE, card_send(T, index, SENT));
+    look(index);
+    EXPECT(SEEN[CARD_SEEN_STATE], CARD_STATE_SILENT);
+    EXPECT(SEEN[CARD_SEEN_ALIAS], 0);
+}
+
 /* 32 frames in every inbox of two nodes; then no more; each at its place; then one less. */
 static void inboxes(size_t index) {
     ACCEPTED(card_power_on(T, 0, ID + 1));
@@ -316,6 +335,8 @@ int main(void) {
     bring_up(CARD_NODES - 1);
     orders(CARD_NODES - 1);
     links(CARD_NODES - 1);
+    duplicate(CARD_NODES - 1);
+    bring_up(CARD_NODES - 1);
     inboxes(CARD_NODES - 1);
     ends(CARD_NODES - 1);
     maps();

@@ -10,9 +10,9 @@ const BIT_28: u32 = 1 << 28;
 const MESSAGE: u32 = 1 << 27;
 const HEADER_MAX: u32 = (1 << 29) - 1;
 
-/// The duplicate report's field and data, as the standard prints them.
+/// The duplicate report's field, and its data by request A.2: an event number, which has eight bytes.
 const REPORT_FIELD: u16 = 0x15B4;
-const REPORT_DATA: [u8; 7] = [0x01, 0x01, 0x00, 0x00, 0x00, 0x02, 0x01];
+const REPORT_DATA: [u8; 8] = [0x01, 0x01, 0x00, 0x00, 0x00, 0x00, 0x02, 0x01];
 
 /// As a script carries it: the length may be any byte, and bytes past the length may be anything.
 #[derive(Clone, Copy, Debug, PartialEq, Eq)]

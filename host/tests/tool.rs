@@ -165,16 +165,24 @@ fn long_scripts_are_explained() {
 }
 
 /// Foreign frames, and what is said of each.
-const FRAMES: [(&str, &str); 20] = [
-    ("foreign message 15B4 263 01010000000201", "the report of a duplicate Node ID"),
+const FRAMES: [(&str, &str); 22] = [
+    ("foreign message 15B4 263 0101000000000201", "the report of a duplicate Node ID"),
     (
-        "foreign message 15B4 263 01010000000202",
-        "message 15B4, alias 263, data 01.01.00.00.00.02.02:",
+        "foreign message 15B4 263 0101000000000202",
+        "message 15B4, alias 263, data 01.01.00.00.00.00.02.02:",
+    ),
+    (
+        "foreign message 15B4 263 01010000000201",
+        "message 15B4, alias 263, data 01.01.00.00.00.02.01:",
+    ),
+    (
+        "foreign message 15B4 263 0101000000020100",
+        "message 15B4, alias 263, data 01.01.00.00.00.02.01.00:",
     ),
     ("foreign message 15B4 263", "message 15B4, alias 263: it joins"),
     (
-        "foreign message 05B4 263 01010000000201",
-        "message 05B4, alias 263, data 01.01.00.00.00.02.01:",
+        "foreign message 05B4 263 0101000000000201",
+        "message 05B4, alias 263, data 01.01.00.00.00.00.02.01:",
     ),
     ("foreign message 15B4 263 010203040506", "message 15B4, alias 263, data 01.02.03.04.05.06:"),
     ("foreign AMD 263 010203040506", "AMD, alias 263, Node ID 01.02.03.04.05.06:"),
@@ -203,7 +211,7 @@ const FRAMES: [(&str, &str); 20] = [
     ),
 ];
 
-/// A message of field 15B4 is a report by its data alone, and six bytes are a Node ID only in AMD, AME, AMR and error reports.
+/// A message of field 15B4 is a report by its eight bytes alone, and six bytes are a Node ID only in AMD, AME, AMR and error reports.
 #[test]
 fn frames_are_told_by_what_they_carry() {
     for (frame, words) in FRAMES {
@@ -211,7 +219,7 @@ fn frames_are_told_by_what_they_carry() {
         let line = text.lines().nth(1).expect("two commands").to_string();
         assert!(line.contains(words), "{frame}: {line}");
         let reports = line.contains("report of a duplicate");
-        assert_eq!(reports, frame.ends_with("15B4 263 01010000000201"), "{frame}: {line}");
+        assert_eq!(reports, frame.ends_with("15B4 263 0101000000000201"), "{frame}: {line}");
     }
 }
 

@@ -41,7 +41,6 @@ use Rattle.script.specs.Rules.{
   lastLine,
   outputOf,
   output,
-  frame,
 }
 
 -- 01 00 05 01 01 01 01 01 04 00 02 00 02 18
@@ -71,9 +70,16 @@ pub refusal-line : line 12345 0xFF (refused 10) ≡ 49 ∷ 50 ∷ 51 ∷ 52 ∷ 
 unfolding digit hex decimalUpTo dataText answerText line
 refusal-line = refl
 
--- 7 02 ok 195B4263 01010000000201: the seven bytes of the duplicate report
-pub report-line : line 7 0x02 (accepted (left (frame 0 0x195B4263 7 0x0101000000020100)))
+-- 6 02 ok 10701263 050101010101, an AMD: of the eight bytes those that its length counts
+pub amd-line : line 6 0x02 (accepted (left (amdFrame 0x050101010101 0x263)))
+    ≡ 54 ∷ 32 ∷ 48 ∷ 50 ∷ 32 ∷ 111 ∷ 107 ∷ 32 ∷ 49 ∷ 48 ∷ 55 ∷ 48 ∷ 49 ∷ 50 ∷ 54 ∷ 51 ∷ 32
+    ∷ 48 ∷ 53 ∷ 48 ∷ 49 ∷ 48 ∷ 49 ∷ 48 ∷ 49 ∷ 48 ∷ 49 ∷ 48 ∷ 49 ∷ 10 ∷ []
+unfolding amdFrame digit hex decimalUpTo dataText answerText line
+amd-line = refl
+
+-- A.2: 7 02 ok 195B4263 0101000000000201, the duplicate report of a node with alias 263
+pub report-line : line 7 0x02 (accepted (left (reportFrame 0x263)))
     ≡ 55 ∷ 32 ∷ 48 ∷ 50 ∷ 32 ∷ 111 ∷ 107 ∷ 32 ∷ 49 ∷ 57 ∷ 53 ∷ 66 ∷ 52 ∷ 50 ∷ 54 ∷ 51 ∷ 32
-    ∷ 48 ∷ 49 ∷ 48 ∷ 49 ∷ 48 ∷ 48 ∷ 48 ∷ 48 ∷ 48 ∷ 48 ∷ 48 ∷ 50 ∷ 48 ∷ 49 ∷ 10 ∷ []
-unfolding digit hex decimalUpTo dataText answerText line
+    ∷ 48 ∷ 49 ∷ 48 ∷ 49 ∷ 48 ∷ 48 ∷ 48 ∷ 48 ∷ 48 ∷ 48 ∷ 48 ∷ 48 ∷ 48 ∷ 50 ∷ 48 ∷ 49 ∷ 10 ∷ []
+unfolding reportFrame digit hex decimalUpTo dataText answerText line
 report-line = refl

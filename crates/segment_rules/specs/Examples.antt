@@ -1,4 +1,4 @@
--- Worked examples of the segment's rules: sentences of document 01 and of A.1, each at one segment, all in one statement.
+-- Worked examples of the segment's rules: sentences of document 01, of A.1 and of A.2, each at one segment, all in one statement.
 use mathlib.Core.Path.{_≡_, refl}
 use mathlib.Core.Bool.{Bool, true, false, cond}
 use mathlib.Core.List.{List, [], _∷_}
@@ -37,6 +37,7 @@ use Rattle.node.specs.Rules.{
   amrFrame,
   reportFrame,
   errorFrame,
+  isOwn,
   firstWaiting,
   dueOf,
   tickOf,
@@ -456,11 +457,34 @@ ofLinks =
     ∷ judges (alone 3 (reporting ErrorPassive Report0) []) noAges (replicate 41 tick) true
     ∷ []
 
+-- THE DUPLICATE REPORT (A.2)
+
+-- the report of a node with alias 263, by its eight bytes; that node with the report waiting
+abbrev pub report : Frame
+report = record { kind = 0; header = 0x195B4263; len = 8; bytes = 0x0101000000000201 }
+
+abbrev pub duplicate : Node
+duplicate = waits permitted (withReport noneWaiting true)
+
+abbrev pub ofReports : List Example
+ofReports =
+    -- an AMD with the own Node ID and another alias makes it wait
+    makes (alone 3 permitted (withId 0x10701111 0x050101010101 ∷ [])) (deliver 3) 3 duplicate []
+    -- the report's data is 01 01 00 00 00 00 02 01: as it is seen, as it leaves, as it joins another inbox
+    ∷ shows (alone 3 duplicate []) 3 (sees 3 0x263 (next report) 0)
+    ∷ says (alone 3 duplicate []) (send 3) (accepted (left report))
+    ∷ makes (two 3 duplicate [] 4 permitted []) (send 3) 4 permitted (report ∷ [])
+    -- it makes the node Silent
+    ∷ makes (alone 3 duplicate []) (send 3) 3 (inState Silent) []
+    -- all other frames as before: a message of the host with the field of the report and 002's seven bytes
+    ∷ says (alone 3 (waits permitted (withHost noneWaiting (Message 0x15B4 7 0x0101000000020100))) []) (send 3) (accepted (left (record { kind = 0; header = 0x195B4263; len = 7; bytes = 0x0101000000020100 })))
+    ∷ []
+
 abbrev pub examples : List (List Example)
-examples = ofAnswers ∷ ofPlaces ∷ ofAges ∷ ofKept ∷ ofLooks ∷ ofLinks ∷ []
+examples = ofAnswers ∷ ofPlaces ∷ ofAges ∷ ofKept ∷ ofLooks ∷ ofLinks ∷ ofReports ∷ []
 
 pub examples-hold : AllOf examples
-unfolding roomBut run answers aged old kept seen looks frameIn looksIn offNode fresh restart moved counted waits linked cidFrame ridFrame amdFrame amrFrame errorFrame firstWaiting dueOf tickOf sentPermitted sentOf failedOf sameAlias addressed otherAlias received malformed used trimmed onPowerOn onLeave onFail hostOrders onMessage onEnquiry onRelease linkTold onLink kindIn mixed
+unfolding roomBut run answers aged old kept seen looks frameIn looksIn offNode fresh restart moved counted waits linked cidFrame ridFrame amdFrame amrFrame reportFrame errorFrame isOwn firstWaiting dueOf tickOf sentPermitted sentOf failedOf sameAlias addressed otherAlias received malformed used trimmed onPowerOn onLeave onFail hostOrders onMessage onEnquiry onRelease linkTold onLink kindIn mixed
 examples-hold = (
   (refl, (refl, (refl, (refl, (refl, (refl, (refl, (refl, (refl, (refl, (refl, (refl, (refl, (refl, (refl, (refl, (refl, (refl, (refl, (refl, (refl, (refl, (refl, (refl, (refl, (refl, (refl, (refl, (refl, (refl, (refl, (refl, tt)))))))))))))))))))))))))))))))),
   (
@@ -473,7 +497,10 @@ examples-hold = (
           (refl, (refl, (refl, (refl, (refl, (refl, (refl, (refl, (refl, (refl, (refl, (refl, (refl, tt))))))))))))),
           (
             (refl, (refl, (refl, (refl, (refl, (refl, (refl, (refl, (refl, (refl, (refl, (refl, (refl, (refl, (refl, (refl, (refl, (refl, (refl, (refl, (refl, (refl, (refl, (refl, (refl, (refl, (refl, (refl, (refl, (refl, (refl, (refl, (refl, (refl, (refl, (refl, (refl, (refl, (refl, tt))))))))))))))))))))))))))))))))))))))),
-            tt,
+            (
+              (refl, (refl, (refl, (refl, (refl, (refl, tt)))))),
+              tt,
+            ),
           ),
         ),
       ),

@@ -157,13 +157,13 @@ amdFrame id a = withId (header 0 0x0701 a) id
 unfoldable pub amrFrame : (id alias : ℕ) → Frame
 amrFrame id a = withId (header 0 0x0703 a) id
 
--- The report is field 0x15B4, type 1, data 01 01 00 00 00 02 01.
+-- The report is field 0x15B4, type 1. A.2: its data is 01 01 00 00 00 00 02 01.
 unfoldable pub reportFrame : (alias : ℕ) → Frame
 reportFrame a = record {
   kind = 0;
   header = header 1 0x15B4 a;
-  len = 7;
-  bytes = packed (0x01 ∷ 0x01 ∷ 0x00 ∷ 0x00 ∷ 0x00 ∷ 0x02 ∷ 0x01 ∷ []);
+  len = 8;
+  bytes = packed (0x01 ∷ 0x01 ∷ 0x00 ∷ 0x00 ∷ 0x00 ∷ 0x00 ∷ 0x02 ∷ 0x01 ∷ []);
 }
 
 -- The due frame, document 01's term: the one that leaves next, if any.

@@ -108,14 +108,15 @@ pub fn amr(id: u64, alias: Alias) -> Frame
     id_frame(headers::header::header_of(Type::Control, 0x0703, alias), id)
 }
 
+// A.2: its data is an event number, which has eight bytes.
 pub fn duplicate_report(alias: Alias) -> Frame
     ensures { λ r. ⌜ r ≡ reportFrame (alias .0) ⌝ }
 {
     Frame {
         kind: 0,
         header: headers::header::header_of(Type::Message, 0x15B4, alias),
-        len: 7,
-        bytes: 0x0101_0000_0002_0100,
+        len: 8,
+        bytes: 0x0101_0000_0000_0201,
     }
 }
 

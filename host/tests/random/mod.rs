@@ -141,6 +141,7 @@ fn data(random: &mut Random) -> String {
         " 01 02",
         " 0000",
         " 01010000000201",
+        " 0101000000000201",
         " 0102030405060708",
     ];
     let data = random.pick(&data).to_string();

@@ -73,9 +73,10 @@ pub enum Owed {
     Amr,
 }
 
-/// The duplicate report's field and data, as 002 prints them.
+/// The duplicate report's field, as 002 prints it, and its data, as A.2 does: an event number has
+/// eight bytes, and 002 prints seven.
 const REPORT_FIELD: u16 = 0x15B4;
-const REPORT_DATA: [u8; 7] = [0x01, 0x01, 0x00, 0x00, 0x00, 0x02, 0x01];
+const REPORT_DATA: [u8; 8] = [0x01, 0x01, 0x00, 0x00, 0x00, 0x00, 0x02, 0x01];
 
 #[derive(Clone, Copy, Debug, PartialEq, Eq)]
 pub struct Node {

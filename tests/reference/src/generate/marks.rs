@@ -46,6 +46,10 @@ pub enum Mark {
     FullInbox(State),
     /// The sender's own inbox was full and the frame left.
     OwnInboxFull,
+    /// A duplicate report left, and it joined the inbox of another node, or there was none.
+    Report {
+        joins: bool,
+    },
     EndKept,
     EndLate,
     LateThenStopped,
@@ -174,6 +178,8 @@ impl Mark {
             Mark::FailedOld(Sort::Reply),
             Mark::FailedOld(Sort::Amr),
             Mark::OwnInboxFull,
+            Mark::Report { joins: false },
+            Mark::Report { joins: true },
             Mark::EndKept,
             Mark::EndLate,
             Mark::LateThenStopped,
@@ -313,6 +319,15 @@ impl Marks {
         match *command {
             Command::Tick if segment.is_late() && !self.was_late => self.turned_late(segment),
             Command::PowerOn { index, .. } => self.after_power_on(segment, usize::from(index)),
+            // Only the duplicate report makes its sender Silent.
+            Command::Send { index } => {
+                let sender = usize::from(index);
+                let mut others = (0..Segment::PLACES).filter(|&place| place != sender);
+                if segment.node(sender).state() == State::Silent {
+                    let joins = others.any(|place| !segment.node(place).is_off());
+                    self.count(Mark::Report { joins });
+                }
+            }
             Command::Deliver { index } => {
                 let alias = segment.node(usize::from(index)).tested_alias();
                 let same = (0..Segment::PLACES)

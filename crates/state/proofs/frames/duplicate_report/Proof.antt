@@ -1,3 +1,4 @@
+use mathlib.Core.Path.{refl}
 use Rattle.state.specs.Rules.{reportFrame}
 use borrow.Author.Needs.{needs}
 use Rattle.state.proofs.frames.duplicate_report.Statement.{statement}
@@ -8,4 +9,4 @@ unfolding reportFrame
 duplicate-report-spec =
     tie.close (tie.spec
     (λ c κs. search needs)
-    (λ c. simp (c .header-of .ensures)))
+    (λ c. simp (c .header-of .ensures) refl))
