@@ -171,6 +171,10 @@ ownCid = bare 0x17050263
 abbrev pub ownMessage : Frame
 ownMessage = bare 0x195B4263
 
+-- its duplicate report, by A.2's eight bytes
+abbrev pub report : Frame
+report = record { kind = 0; header = 0x195B4263; len = 8; bytes = 0x0101000000000201 }
+
 -- frames that have no effect on it
 abbrev pub frame1 : Frame
 frame1 = bare 0x10700111
@@ -435,7 +439,7 @@ ofLinks =
     -- it stands after reply RID, AMD and duplicate report and before the host frame
     ∷ shows (alone 3 (waits permitted (withReply error0 true)) []) 3 (sees 3 0x263 (next (bare 0x10700263)) 0)
     ∷ shows (alone 3 (waits permitted (withAmd error0 true)) []) 3 (sees 3 0x263 (next (withId 0x10701263 0x050101010101)) 0)
-    ∷ shows (alone 3 (waits permitted (withReport error0 true)) []) 3 (sees 3 0x263 (next (reportFrame 0x263)) 0)
+    ∷ shows (alone 3 (waits permitted (withReport error0 true)) []) 3 (sees 3 0x263 (next report) 0)
     ∷ shows (alone 3 (waits permitted (withHost error0 (Enquiry 0 0))) []) 3 (sees 3 0x263 (next (withId 0x10710263 0x050101010101)) 0)
     ∷ makes (alone 3 (waits permitted (withHost error0 (Enquiry 0 0))) []) (send 3) 3 (waits permitted (withHost noneWaiting (Enquiry 0 0))) []
     -- a later one replaces it
@@ -459,10 +463,7 @@ ofLinks =
 
 -- THE DUPLICATE REPORT (A.2)
 
--- the report of a node with alias 263, by its eight bytes; that node with the report waiting
-abbrev pub report : Frame
-report = record { kind = 0; header = 0x195B4263; len = 8; bytes = 0x0101000000000201 }
-
+-- with the report waiting
 abbrev pub duplicate : Node
 duplicate = waits permitted (withReport noneWaiting true)
 
