@@ -2,7 +2,7 @@
 
 mod common;
 
-use common::{in_state, refusal, ID};
+use common::{in_state, refusal, ID, REPORT};
 use reference::generate::draft::Draft;
 use reference::{run, Command, Frame, Node, State};
 
@@ -99,8 +99,7 @@ fn five_frames_wait_and_leave_in_order() {
     draft.foreign_amd_of(0).foreign_ame().foreign_cid(0).drain(0);
     assert_eq!(draft.send(0).answer, Ok(Some(Frame::extended(0x1070_0263, &[]))));
     assert_eq!(draft.send(0).answer, Ok(Some(Frame::with_node_id(0x1070_1263, ID))));
-    let duplicate = Frame::extended(0x195B_4263, &[1, 1, 0, 0, 0, 0, 2, 1]);
-    assert_eq!(draft.send(0).answer, Ok(Some(duplicate)));
+    assert_eq!(draft.send(0).answer, Ok(Some(REPORT)));
     assert_eq!((draft.state(0), draft.has_due(0)), (State::Silent, false));
 }
 

@@ -1,8 +1,9 @@
 //! One node alone: its refusals, their order, and that a refusal changes nothing.
 
-use reference::{Frame, Node, Refusal, State};
+mod common;
 
-const ID: u64 = 0x0501_0101_0101;
+use common::{ID, REPORT};
+use reference::{Frame, Node, Refusal, State};
 
 fn in_state(state: State) -> Node {
     let mut node = Node::power_on(ID).unwrap();
@@ -169,8 +170,7 @@ fn waiting_frames_leave_in_order() {
     without_report.link(1).unwrap();
     assert_eq!(without_report.leaves(), Ok(Frame::with_node_id(0x1071_0263, ID)));
     assert_eq!(without_report.leaves(), Ok(Frame::extended(0x1070_2263, &[0; 6])));
-    let report = Frame::extended(0x195B_4263, &[1, 1, 0, 0, 0, 0, 2, 1]);
-    assert_eq!(node.leaves(), Ok(report));
+    assert_eq!(node.leaves(), Ok(REPORT));
     assert_eq!(node.state(), State::Silent);
     assert_eq!((node.due(), node.used_alias()), (None, None));
 }

@@ -3,17 +3,9 @@
 
 mod common;
 
-use common::{in_state, refusal, ID};
+use common::{in_state, refusal, ID, REPORT};
 use reference::generate::draft::Draft;
 use reference::{run, Frame, State};
-
-/// The report of the node whose alias is 263.
-const REPORT: Frame = Frame {
-    header: 0x195B_4263,
-    kind: 0,
-    len: 8,
-    data: [0x01, 0x01, 0x00, 0x00, 0x00, 0x00, 0x02, 0x01],
-};
 
 #[test]
 fn the_report_leaves_with_eight_bytes_and_makes_silent() {

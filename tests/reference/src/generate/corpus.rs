@@ -11,7 +11,6 @@ use crate::script;
 pub const SEED: u64 = 0x0501_0101_0101;
 
 const WALKS: usize = 72;
-const MOST_FILLERS: usize = 400;
 
 /// All scripts of the corpus, in order.
 pub fn scripts(seed: u64) -> Vec<Vec<u8>> {
@@ -32,12 +31,7 @@ pub fn scripts(seed: u64) -> Vec<Vec<u8>> {
         cover.count_script(&script);
         scripts.push(script);
     }
-    for _ in 0..MOST_FILLERS {
-        if cover.missing_cells().is_empty() {
-            break;
-        }
-        scripts.push(filler::fill(&mut cover, &mut rng));
-    }
+    scripts.extend(filler::scripts(&mut cover, &mut rng));
     scripts
 }
 

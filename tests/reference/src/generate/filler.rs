@@ -18,6 +18,8 @@ use crate::segment::Segment;
 const NODES: usize = 5;
 /// No script grows far beyond this.
 const BYTES: usize = 2_000;
+/// So many scripts or lists are tried.
+const MOST: usize = 400;
 
 const SEND_REFUSED_5: Event = Event::Answer(2, 5);
 
@@ -32,14 +34,24 @@ pub struct Filler<'a> {
     links: bool,
 }
 
-/// One more script, counted in `cover` as it is written.
-pub fn fill(cover: &mut Coverage, rng: &mut Prng) -> Vec<u8> {
-    filled(cover, rng, false).bytes
+/// Scripts that reach every cell that scripts can, counted in `cover` as they are written.
+pub fn scripts(cover: &mut Coverage, rng: &mut Prng) -> Vec<Vec<u8>> {
+    fill(cover, rng, false).into_iter().map(|draft| draft.bytes).collect()
 }
 
-/// One more list, with link orders, counted in `cover` as it is written.
-pub fn fill_list(cover: &mut Coverage, rng: &mut Prng) -> Vec<Command> {
-    filled(cover, rng, true).list
+/// Lists with link orders that reach every cell, counted in `cover` as they are written.
+pub fn lists(cover: &mut Coverage, rng: &mut Prng) -> Vec<Vec<Command>> {
+    fill(cover, rng, true).into_iter().map(|draft| draft.list).collect()
+}
+
+/// One after another until no cell is missing.
+fn fill(cover: &mut Coverage, rng: &mut Prng, links: bool) -> Vec<Draft> {
+    let missing = if links { Coverage::missing_in_lists } else { Coverage::missing_cells };
+    let mut drafts = Vec::new();
+    while drafts.len() < MOST && !missing(cover).is_empty() {
+        drafts.push(filled(cover, rng, links));
+    }
+    drafts
 }
 
 fn filled(cover: &mut Coverage, rng: &mut Prng, links: bool) -> Draft {

@@ -11,7 +11,6 @@ use crate::generate::walker::{walk_list, Temper};
 use crate::node::State;
 
 const WALKS: usize = 48;
-const MOST_FILLERS: usize = 400;
 
 /// Lists that together reach every cell that can be reached, and every link mark.
 pub fn lists(seed: u64) -> Vec<Vec<Command>> {
@@ -25,12 +24,7 @@ pub fn lists(seed: u64) -> Vec<Vec<Command>> {
     for list in &lists {
         cover.count_list(list);
     }
-    for _ in 0..MOST_FILLERS {
-        if cover.missing_in_lists().is_empty() {
-            break;
-        }
-        lists.push(filler::fill_list(&mut cover, &mut rng));
-    }
+    lists.extend(filler::lists(&mut cover, &mut rng));
     lists
 }
 

@@ -1,9 +1,19 @@
-//! A node brought to a state, for the tests of single points.
+//! A node brought to a state, and its report, for the tests of single points. Not every test needs
+//! all of it.
+#![allow(dead_code)]
 
 use reference::generate::draft::Draft;
-use reference::{Refusal, State};
+use reference::{Frame, Refusal, State};
 
 pub const ID: u64 = 0x0501_0101_0101;
+
+/// The duplicate report under the first alias of that Node ID, with the data of A.2.
+pub const REPORT: Frame = Frame {
+    header: 0x195B_4263,
+    kind: 0,
+    len: 8,
+    data: [0x01, 0x01, 0x00, 0x00, 0x00, 0x00, 0x02, 0x01],
+};
 
 /// One node at index 0, in this state.
 pub fn in_state(state: State) -> Draft {
