@@ -1,12 +1,12 @@
 -- Demand 3, one claim about every list of commands: what the commands promise, carried from all nodes Off through any list.
 use mathlib.Core.Path.{_≡_, refl, sym, ap, subst, _∙_}
 use mathlib.Core.Logic.{_≢_}
-use mathlib.Core.Bool.{Bool, true, false, not, cond, _||_, _&&_, and-assoc}
+use mathlib.Core.Bool.{Bool, true, false, false≢true, not, cond, _||_, _&&_, and-assoc}
 use mathlib.Core.List.{List, [], _∷_, _++_, map, map-append}
-use Prim.Native.Nat.{ℕ, _+_, _<_, _≤_}
+use Prim.Native.Nat.{ℕ, _+_, _*_, _<_, _≤_}
 use native.Mathlib.Omega.{arith}
 use lib.Dec.{ltb}
-use borrow.Author.Tests.{not-true, lt-ltb, ltb-true}
+use borrow.Author.Tests.{not-true, not-false, lt-ltb, ltb-true}
 use Rattle.node.specs.Rules.{Answer, accepted, refused, Value, timedFor, wait, uses, offNode, next, dueOf}
 use Rattle.state.specs.Answers.{answerAs}
 use Rattle.state.specs.declared.Answer as A
@@ -60,6 +60,22 @@ pub data Carried : List Command → List A.Answer → List ℕ → Type 0 where
   then : {cs : List Command} {xs : List A.Answer} {t : List ℕ} {c : Command} {a : A.Answer} {t′ : List ℕ}
       → Carried cs xs t → Does c t a t′ → Carried (cs ++ c ∷ []) (xs ++ a ∷ []) t′
 
+-- A.3: i is the most ticks an inbox frame may stand, o the most that a reply RID or AMR may wait; allowed is every i and o with
+-- 2 × i + o at most 200 and i + 2 × o at most 200.
+abbrev pub most : ℕ
+most = 200
+
+abbrev pub Allowed : (i o : ℕ) → Type 0
+Allowed i o = (2 * i + o ≤ most) × (i + 2 * o ≤ most)
+
+-- Single aliases, in the words of a table: no two nodes use one alias, and no two have due frames with identical headers and
+-- different data.
+pub record Single (t : List ℕ) : Type 0 where
+  pub one-user : (p q : ℕ) → p < places → q < places → p ≢ q
+      → uses (nodeAt t p .phase) ≡ true → uses (nodeAt t q .phase) ≡ true → nodeAt t p .alias .0 ≢ nodeAt t q .alias .0
+  pub one-meaning : (p q : ℕ) → p < places → q < places → p ≢ q → (f g : Frame)
+      → dueOf wait (nodeAt t p) ≡ next f → dueOf wait (nodeAt t q) ≡ next g → f .header ≡ g .header → (f .len ≡ g .len) × (f .bytes ≡ g .bytes)
+
 -- THE CLAIM. What the rules give is `run start cs`, from the list's commands alone.
 pub record Claim (cs : List Command) (xs : List A.Answer) (t : List ℕ) : Type 0 where
   -- every answer: accepted, for a send with the frame that left, or the refusal's number
@@ -70,12 +86,8 @@ pub record Claim (cs : List Command) (xs : List A.Answer) (t : List ℕ) : Type 
   pub inboxes : (k : ℕ) → k < places → map frameOf (inbox t k) ≡ run start cs .at k .inbox
   -- late exactly when some age in the list exceeded the limit
   pub late : lateOf t ≡ not (isKept limit limit cs)
-  -- where the list is kept, no two nodes use one alias
-  pub one-user : isKept limit limit cs ≡ true → (p q : ℕ) → p < places → q < places → p ≢ q
-      → uses (nodeAt t p .phase) ≡ true → uses (nodeAt t q .phase) ≡ true → nodeAt t p .alias .0 ≢ nodeAt t q .alias .0
-  -- and no two have due frames with identical headers and different data
-  pub one-meaning : isKept limit limit cs ≡ true → (p q : ℕ) → p < places → q < places → p ≢ q → (f g : Frame)
-      → dueOf wait (nodeAt t p) ≡ next f → dueOf wait (nodeAt t q) ≡ next g → f .header ≡ g .header → (f .len ≡ g .len) × (f .bytes ≡ g .bytes)
+  -- A.3: for every i and o so allowed, where in the list no inbox frame's age exceeds i and no reply RID's or AMR's exceeds o
+  pub single : (i o : ℕ) → Allowed i o → isKept i o cs ≡ true → Single t
 
 -- LISTS WITH ONE MORE COMMAND
 
@@ -112,6 +124,19 @@ module _ (i o : ℕ) where
   kept-limit S G [] e = not-true (old i o places S G) e
   kept-limit S G (d ∷ cs) e =
       kept-limit (step S d) (ageStep ticks S G d) cs (both (not (old i o places S G)) (kept ticks i o (step S d) (ageStep ticks S G d) cs) e .1)
+
+-- what keeps limits keeps greater ones
+module _ (i o i′ o′ : ℕ) (hi : i ≤ i′) (ho : o ≤ o′) where
+  old-more : (S : Segment) (G : ℕ → Ages) → old i o places S G ≡ false → old i′ o′ places S G ≡ false
+  old-more S G e = old-none i′ o′ places S G (λ k h. let n = S .at k .node in
+      limit-test i′ o′ n (G k) (limit-more i o i′ o′ hi ho n (G k) (test-limit i o n (G k) (old-at i o places S G k e h))))
+
+  pub kept-more : (S : Segment) (G : ℕ → Ages) (cs : List Command) → kept ticks i o S G cs ≡ true → kept ticks i′ o′ S G cs ≡ true
+  unfolding kept
+  kept-more S G [] e = ap not (old-more S G (not-true (old i o places S G) e))
+  kept-more S G (c ∷ cs) e =
+      let b = both (not (old i o places S G)) (kept ticks i o (step S c) (ageStep ticks S G c) cs) e in
+      λ j. not (old-more S G (not-true (old i o places S G) (b .0)) j) && kept-more (step S c) (ageStep ticks S G c) cs (b .1) j
 
 -- a command lets at most one tick pass
 one-tick : (c : Command) → ticks c ≤ 1
@@ -257,12 +282,31 @@ claim {cs} {xs} {t} r = record {
   nodes = λ k h. same-node r k h;
   inboxes = λ k h. ap (λ (p : Place). p .inbox) (same-place r k h);
   late = follows r .late;
-  one-user = λ e p q hp hq ne u v x. single limit limit (omega arith) (omega arith) cs e p q hp hq ne
-      (ap (λ (n : Node). uses (n .phase)) (sym (same-node r p hp)) ∙ u)
-      (ap (λ (n : Node). uses (n .phase)) (sym (same-node r q hq)) ∙ v)
-      (ap (λ (n : Node). n .alias .0) (sym (same-node r p hp)) ∙ x ∙ ap (λ (n : Node). n .alias .0) (same-node r q hq));
-  one-meaning = λ e p q hp hq ne f g df dg x. one-meaning limit limit (omega arith) (omega arith) cs e p q hp hq ne f g
-      (ap (dueOf wait) (sym (same-node r p hp)) ∙ df)
-      (ap (dueOf wait) (sym (same-node r q hq)) ∙ dg)
-      x;
+  single = λ i o h e. record {
+    one-user = λ p q hp hq ne u v x. single i o (omega (arith, h .0)) (omega (arith, h .1)) cs e p q hp hq ne
+        (ap (λ (n : Node). uses (n .phase)) (sym (same-node r p hp)) ∙ u)
+        (ap (λ (n : Node). uses (n .phase)) (sym (same-node r q hq)) ∙ v)
+        (ap (λ (n : Node). n .alias .0) (sym (same-node r p hp)) ∙ x ∙ ap (λ (n : Node). n .alias .0) (same-node r q hq));
+    one-meaning = λ p q hp hq ne f g df dg x. one-meaning i o (omega (arith, h .0)) (omega (arith, h .1)) cs e p q hp hq ne f g
+        (ap (dueOf wait) (sym (same-node r p hp)) ∙ df)
+        (ap (dueOf wait) (sym (same-node r q hq)) ∙ dg)
+        x;
+  };
 }
+
+-- Document 01's limits, 40 and 40, are one case.
+pub base : {cs : List Command} {xs : List A.Answer} {t : List ℕ} → Carried cs xs t → isKept limit limit cs ≡ true → Single t
+base r = claim r .single limit limit (omega arith, omega arith)
+
+-- What late tells of other limits: a list that is not late keeps all that are as great or greater, a late one none that are as small
+-- or smaller.
+module _ {cs : List Command} {xs : List A.Answer} {t : List ℕ} (r : Carried cs xs t) (i o : ℕ) where
+  pub kept-above : lateOf t ≡ false → limit ≤ i → limit ≤ o → isKept i o cs ≡ true
+  kept-above e hi ho = kept-more limit limit i o hi ho start noAges cs (not-false (isKept limit limit cs) (sym (claim r .late) ∙ e))
+
+  pub late-below : lateOf t ≡ true → i ≤ limit → o ≤ limit → isKept i o cs ≡ false
+  late-below e hi ho = go (isKept i o cs) refl
+    where
+      go : (b : Bool) → isKept i o cs ≡ b → isKept i o cs ≡ false
+      go true k = absurd (false≢true (sym (not-true (isKept limit limit cs) (sym (claim r .late) ∙ e)) ∙ kept-more i o limit limit hi ho start noAges cs k))
+      go false k = k

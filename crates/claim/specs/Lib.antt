@@ -1,5 +1,6 @@
 -- What the crate's contracts cite and what is proved of it, in reading order.
 pub mod Claim
+pub mod Sharp
 pub mod Single
 pub mod Sight
 pub mod Bus
