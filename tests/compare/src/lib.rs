@@ -6,7 +6,7 @@ pub mod operations;
 pub mod setting;
 pub mod shrink;
 
-use reference::{claim_holds, Command, Segment};
+use reference::{whole_commands, Watch};
 
 extern "C" {
     /// crates/script_api: the whole output of a script, and how many bytes of it the buffer now holds.
@@ -38,16 +38,7 @@ impl Proved {
     }
 }
 
-/// Whether the claim holds on the other implementation after every command, while the list is kept.
-pub fn claim_held(script: &[u8]) -> bool {
-    let mut segment = Segment::new();
-    let mut rest = script;
-    while let Ok((command, after)) = Command::read(rest) {
-        let _ = segment.carry_out(&command);
-        if !segment.is_late() && !claim_holds(&segment) {
-            return false;
-        }
-        rest = after;
-    }
-    true
+/// What a script comes to on the other implementation: its greatest ages, and whether the claim held while A.3 allowed them.
+pub fn watched(script: &[u8]) -> Watch {
+    Watch::of(whole_commands(script))
 }

@@ -9,6 +9,9 @@ pub struct Alias(pub u16);
 /// The largest number of 48 bits.
 pub const MAX_48: u64 = (1 << 48) - 1;
 
+/// How many aliases there are, 1 to FFF: Node IDs so far apart have the same first one.
+pub const ALIASES: u64 = 4095;
+
 const FACTOR: u64 = 513;
 const STEP: u64 = 0x1B0C_A37A_4BA9;
 
@@ -29,7 +32,7 @@ pub fn next_alias(state: u64) -> Result<(Alias, u64), Refusal> {
 }
 
 pub(crate) fn first(id: u64) -> Alias {
-    Alias(1 + (id % 4095) as u16)
+    Alias(1 + (id % ALIASES) as u16)
 }
 
 pub(crate) fn next(state: u64) -> (Alias, u64) {

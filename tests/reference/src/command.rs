@@ -110,6 +110,16 @@ impl Command {
     }
 }
 
+/// The whole commands of a script, up to its end or to what is refused by 10 or 11.
+pub fn whole_commands(script: &[u8]) -> impl Iterator<Item = Command> + '_ {
+    let mut rest = script;
+    std::iter::from_fn(move || {
+        let (command, after) = Command::read(rest).ok()?;
+        rest = after;
+        Some(command)
+    })
+}
+
 /// Splits off N operand bytes; 11 if there are fewer.
 #[inline]
 fn operands<const N: usize>(

@@ -1,26 +1,30 @@
-//! Another implementation of document 01, with request A.1 of document 02, without proofs: the peer
-//! for tests and for speed.
+//! Another implementation of document 01, with requests A.1 to A.3 of document 02, without proofs: the
+//! peer for tests and for speed.
 
 pub mod alias;
 pub mod command;
 pub mod frame;
 pub mod header;
 pub mod inbox;
+pub mod limits;
 pub mod link;
 pub mod map;
 pub mod node;
 pub mod refusal;
 pub mod script;
 pub mod segment;
+pub mod watch;
 
 pub mod generate;
 
 pub use alias::{first_alias, next_alias, Alias};
-pub use command::{Answer, Command};
+pub use command::{whole_commands, Answer, Command};
 pub use frame::Frame;
+pub use limits::Limits;
 pub use link::Link;
 pub use map::AliasMap;
 pub use node::{Node, State};
 pub use refusal::Refusal;
 pub use script::{run, run_program};
 pub use segment::{claim_holds, Segment, View};
+pub use watch::Watch;

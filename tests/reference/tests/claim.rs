@@ -1,17 +1,17 @@
 //! The claim itself, after every command of random kept lists; and other facts of all lists.
 
+mod common;
+
+use common::seed;
+use reference::generate::contests;
 use reference::generate::corpus;
 use reference::generate::draft::Draft;
 use reference::generate::prng::Prng;
 use reference::generate::walker::{walk_list, Temper, Walker};
 use reference::node::Owed;
-use reference::{claim_holds, run, Command, Node, Segment, State, View};
-
-/// Another seed can be given as SEED.
-fn seed() -> u64 {
-    let given = std::env::var("SEED").ok();
-    given.map_or(0x0201_2100_0001, |text| text.parse().expect("SEED is a whole number"))
-}
+use reference::{
+    claim_holds, run, whole_commands, Command, Limits, Node, Segment, State, View, Watch,
+};
 
 #[test]
 fn aliases_are_single_in_kept_lists() {
@@ -19,16 +19,16 @@ fn aliases_are_single_in_kept_lists() {
     for number in 0..2_000 {
         let mut rng = Prng::new(seed().wrapping_add(number));
         let mut temper = Temper::random(&mut rng, 2_500);
-        temper.kept = number % 10 != 0;
+        temper.limits = (number % 10 != 0).then_some(Limits::KEPT);
         temper.links = if number % 2 == 0 { 0 } else { 10 };
         let mut walker = Walker::new(&mut rng, temper);
         walker.run();
-        assert!(walker.claim_held, "seed {} script {number}", seed());
+        assert!(walker.watch.claim_held(), "seed {} script {number}", seed());
         let segment = &walker.draft.segment;
         assert!(number % 10 == 0 || !segment.is_late(), "script {number} should be kept");
         kept += usize::from(!segment.is_late());
         several_users += usize::from(walker.most_users > 1);
-        contested += usize::from(walker.contested);
+        contested += usize::from(walker.contested.is_some());
         reported += usize::from(walker.reported);
     }
     println!("{kept} kept; {several_users} with several users, {contested} with a contested alias");
@@ -39,13 +39,7 @@ fn aliases_are_single_in_kept_lists() {
 #[test]
 fn aliases_are_single_in_the_corpus() {
     for script in corpus::scripts(corpus::SEED) {
-        let mut segment = Segment::new();
-        let mut rest = &script[..];
-        while let Ok((command, after)) = Command::read(rest) {
-            let _ = segment.carry_out(&command);
-            assert!(segment.is_late() || claim_holds(&segment));
-            rest = after;
-        }
+        assert!(Watch::of(whole_commands(&script)).claim_held());
     }
 }
 
@@ -126,27 +120,41 @@ fn count_ages(ages: &mut [Ages], before: &[View], segment: &Segment, command: &C
     }
 }
 
+/// The greatest of the ages that are counted here.
+fn greatest(ages: &[Ages], before: Limits) -> Limits {
+    let inbox = ages.iter().flat_map(|ages| ages.inbox.iter().copied());
+    let waiting = ages.iter().filter_map(|ages| ages.owed.map(|(_, age)| age));
+    Limits::new(inbox.fold(before.inbox, u64::max), waiting.fold(before.waiting, u64::max))
+}
+
 #[test]
-fn late_is_as_the_ages_say() {
-    let (mut late_lists, mut kept_lists) = (0, 0);
-    for number in 0..150 {
+fn late_and_the_greatest_ages_are_as_the_ages_say() {
+    let (mut late_lists, mut kept_lists, mut long) = (0, 0, [0; 2]);
+    for number in 0..250 {
         let mut rng = Prng::new(seed() ^ 0x5000 ^ number);
-        let temper = Temper { links: 10, ..Temper::random(&mut rng, 500) };
-        let mut segment = Segment::new();
+        let temper = match number {
+            0..150 => Temper::random(&mut rng, 500),
+            _ => contests::at_corner(&mut rng).1,
+        };
+        let (mut segment, mut watch, mut most) =
+            (Segment::new(), Watch::default(), Limits::default());
         let mut ages = vec![Ages::default(); Segment::PLACES];
-        let mut late = false;
-        for command in walk_list(&mut rng, temper) {
+        for command in walk_list(&mut rng, Temper { links: 10, ..temper }) {
             let before: Vec<View> = (0..Segment::PLACES).map(|p| segment.view(p)).collect();
             let _ = segment.carry_out(&command);
+            watch.see(&segment);
             count_ages(&mut ages, &before, &segment, &command);
-            late |= ages.iter().any(|a| a.inbox.iter().any(|&age| age > 40));
-            late |= ages.iter().any(|a| a.owed.is_some_and(|(_, age)| age > 40));
-            assert_eq!(segment.is_late(), late);
+            most = greatest(&ages, most);
+            assert_eq!(watch.greatest, most);
+            assert_eq!(segment.is_late(), most.inbox.max(most.waiting) > 40);
         }
-        late_lists += usize::from(late);
-        kept_lists += usize::from(!late);
+        late_lists += usize::from(segment.is_late());
+        kept_lists += usize::from(!segment.is_late());
+        long[0] += usize::from(most.inbox > 60);
+        long[1] += usize::from(most.waiting > 60);
     }
-    assert!(late_lists >= 15 && kept_lists >= 50, "{late_lists} late, {kept_lists} kept");
+    println!("{late_lists} late, {kept_lists} kept; inbox, waiting above 60: {long:?}");
+    assert!(late_lists >= 15 && kept_lists >= 50 && long.into_iter().all(|lists| lists >= 15));
 }
 
 /// The output is one line for each command and a last word, at any length.

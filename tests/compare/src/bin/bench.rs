@@ -134,7 +134,7 @@ fn hostile(seed: u64, commands: usize) -> Vec<u8> {
     let mut temper = Temper::random(&mut rng, commands);
     temper.nodes = 24;
     temper.node_ids = ids(0x0501_0101_0100);
-    temper.kept = false;
+    temper.limits = None;
     temper.tick_run = 5;
     temper.weights = [3, 30, 3, 40, 20, 30, 10, 3];
     walk(&mut rng, temper)

@@ -1,8 +1,10 @@
-//! Compares both implementations on fresh random scripts: long and short, valid and damaged. SEED and SCRIPTS may be given.
+//! Compares both implementations on fresh random scripts: long and short, valid and damaged, some at random corners of A.3. SEED
+//! and SCRIPTS may be given.
 
 use compare::setting::{fresh_seed, setting};
 use compare::shrink::{hex, shrink};
-use compare::{claim_held, Proved, ROUND};
+use compare::{watched, Proved, ROUND};
+use reference::generate::contests;
 use reference::generate::prng::Prng;
 use reference::generate::walker::{walk, Temper};
 use reference::Command;
@@ -12,41 +14,57 @@ fn main() {
     let seed = setting("SEED", 0, fresh_seed());
     let scripts = setting("SCRIPTS", 1, 20_000);
     let mut proved = Proved::default();
-    let (mut bytes, mut damaged, mut kept) = (0, 0, 0);
+    let (mut bytes, mut damaged, mut kept, mut at_corners, mut allowed) = (0, 0, 0, 0, 0);
     for number in 0..scripts {
         let seed = seed.wrapping_add(number);
-        let (script, harmed) = script_of(&mut Prng::new(seed));
+        let Made { script, at_corner, harmed } = Made::by_chance(&mut Prng::new(seed));
         if !agree(&mut proved, &script) {
             report(seed, "the outputs differ", &script, |less| !agree(&mut proved, less));
         }
-        if !claim_held(&script) {
-            report(seed, "the claim fails on a kept list", &script, |less| !claim_held(less));
+        let watch = watched(&script);
+        if !watch.claim_held() {
+            report(seed, "the claim fails with ages that A.3 allows", &script, |less| !watched(less).claim_held());
         }
         bytes += script.len();
         damaged += usize::from(harmed);
         kept += usize::from(proved.run(&script).ends_with(b"kept\n"));
+        at_corners += usize::from(at_corner);
+        allowed += usize::from(watch.is_late_but_allowed());
     }
     println!("compare: {scripts} scripts agree, SEED={seed}: {bytes} bytes, {damaged} damaged, {kept} kept");
+    println!(
+        "compare: {at_corners} of them made at random corners of A.3's region; {allowed} late by 40 and 40 and yet within it"
+    );
 }
 
-/// A script, and whether it was damaged after it was made.
-fn script_of(rng: &mut Prng) -> (Vec<u8>, bool) {
-    let commands = match rng.below(40) {
-        0 => 6_000,
-        1..=9 => 10,
-        _ => 250,
-    };
-    let temper = Temper::random(rng, commands);
-    let mut script = walk(rng, temper);
-    if rng.below(40) == 0 {
-        let ticks = rng.between(ROUND - 250, ROUND);
-        script.splice(..0, std::iter::repeat_n(Command::Tick.byte(), ticks).flatten());
+struct Made {
+    script: Vec<u8>,
+    /// Whether it was made to keep the limits of a corner.
+    at_corner: bool,
+    /// Whether it was damaged after it was made.
+    harmed: bool,
+}
+
+impl Made {
+    fn by_chance(rng: &mut Prng) -> Made {
+        let commands = match rng.below(40) {
+            0 => 6_000,
+            1..=9 => 10,
+            _ => 250,
+        };
+        let at_corner = rng.percent(5);
+        let temper = if at_corner { contests::at_corner(rng).1 } else { Temper::random(rng, commands) };
+        let mut script = walk(rng, temper);
+        if rng.below(40) == 0 {
+            let ticks = rng.between(ROUND - 250, ROUND);
+            script.splice(..0, std::iter::repeat_n(Command::Tick.byte(), ticks).flatten());
+        }
+        let harmed = rng.percent(35);
+        if harmed {
+            damage(rng, &mut script);
+        }
+        Made { script, at_corner, harmed }
     }
-    let harmed = rng.percent(35);
-    if harmed {
-        damage(rng, &mut script);
-    }
-    (script, harmed)
 }
 
 /// Bytes changed, put in, taken out, or the end cut off.

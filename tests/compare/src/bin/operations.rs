@@ -1,15 +1,17 @@
 //! Compares the operations for C with the other implementation. The table: OPERATIONS commands, and all that is seen after each of
 //! them; first the lists of the stored corpus, which meet every state with every event that a script can carry, then lists with
-//! link orders, which meet the rest too, then others by chance. Then headers, aliases and the map. SEED may be given.
+//! link orders, which meet the rest too, then lists at random corners of A.3, then others by chance. Then headers, aliases and the
+//! map. SEED may be given.
 
 use compare::operations::map::{self, Counts};
 use compare::operations::operation::Operation;
-use compare::operations::{cover, headers, list, pair};
+use compare::operations::{corners, cover, headers, list, pair};
 use compare::setting::{fresh_seed, setting};
 use compare::shrink::fewest;
 use reference::generate::coverage::Coverage;
 use reference::generate::prng::Prng;
 use reference::generate::{corpus, link_lists};
+use reference::Limits;
 use std::fmt::Display;
 use std::process::exit;
 
@@ -20,22 +22,30 @@ const NOTES_OF_A_MAP: usize = 400;
 fn main() {
     let seed = setting("SEED", 0, fresh_seed());
     let wanted = setting("OPERATIONS", 1, 2_000_000) as usize;
-    compare_tables(seed, wanted);
+    let at_corners = compare_tables(seed, wanted);
     match headers::compare(seed) {
         Ok(calls) => println!("operations: {calls} calls for headers and aliases agree"),
         Err(what) => fail(&what),
     }
     compare_maps(seed);
+    println!("operations: {at_corners}");
 }
 
-fn compare_tables(seed: u64, wanted: usize) {
-    let mut run = Run { cover: Coverage::new(), lists: 0, late: 0, done: 0, far: 0, links: 0, wanted };
+/// Compares tables, and gives a line on the lists at corners.
+fn compare_tables(seed: u64, wanted: usize) -> String {
+    let mut run = Run { wanted, ..Run::default() };
     for script in corpus::scripts(corpus::SEED) {
         run.compare(&list::of_script(&script), "of the stored corpus");
     }
     for commands in link_lists::lists(corpus::SEED) {
         let list: Vec<Operation> = commands.into_iter().map(Operation::from).collect();
         run.compare(&list, "with link orders, of those made for every run");
+    }
+    for number in 0..corners::LISTS {
+        let seed = seed.wrapping_add(number);
+        let (corner, list) = corners::random(&mut Prng::new(seed));
+        let greatest = run.compare(&list, &format!("at {corner:?}, made by SEED={seed},"));
+        run.corners.add(corner, greatest).unwrap_or_else(|what| fail(&format!("SEED={seed}: {what}")));
     }
     for number in 0.. {
         if run.done >= wanted {
@@ -47,11 +57,14 @@ fn compare_tables(seed: u64, wanted: usize) {
     println!("{}", cover::table(&run.cover));
     println!("{}", cover::link_marks(&run.cover));
     run.end(seed);
+    run.corners.line().unwrap_or_else(|unmet| fail(&unmet))
 }
 
 /// What was compared of tables so far.
+#[derive(Default)]
 struct Run {
     cover: Coverage,
+    corners: corners::Counts,
     lists: usize,
     late: usize,
     done: usize,
@@ -61,19 +74,19 @@ struct Run {
 }
 
 impl Run {
-    fn compare(&mut self, list: &[Operation], whose: &str) {
-        match pair::compare(list, &mut self.cover) {
-            Ok(late) => self.late += usize::from(late),
-            Err(what) => {
-                let differs = |less: &[Operation]| pair::compare(less, &mut Coverage::new()).err();
-                report(list, whose, &what, "card_new(table);", differs);
-            }
-        }
+    /// Compares a list and gives its greatest ages.
+    fn compare(&mut self, list: &[Operation], whose: &str) -> Limits {
+        let greatest = pair::compare(list, &mut self.cover).unwrap_or_else(|what| {
+            let differs = |less: &[Operation]| pair::compare(less, &mut Coverage::new()).err();
+            report(list, whose, &what, "card_new(table);", differs)
+        });
         self.show_progress(list.len());
         self.lists += 1;
+        self.late += usize::from(!greatest.are_within(Limits::KEPT));
         self.done += list.len();
         self.far += list.iter().filter(|operation| operation.command().is_none()).count();
         self.links += list.iter().filter(|operation| matches!(operation, Operation::Link { .. })).count();
+        greatest
     }
 
     /// A line for each tenth.

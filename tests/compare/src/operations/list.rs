@@ -6,26 +6,23 @@ use crate::ROUND;
 use reference::generate::draft::Draft;
 use reference::generate::prng::Prng;
 use reference::generate::walker::{walk_list, walk_list_on, Temper};
-use reference::{Command, Segment};
+use reference::{whole_commands, Command, Segment};
 
 /// The whole commands of a script.
 pub fn of_script(script: &[u8]) -> Vec<Operation> {
-    let mut rest = script;
-    std::iter::from_fn(|| {
-        let (command, after) = Command::read(rest).ok()?;
-        rest = after;
-        Some(command.into())
-    })
-    .collect()
+    whole_commands(script).map(Operation::from).collect()
 }
 
-/// A list by chance with far operands among the others. A few begin with ticks until the proved clock goes round.
+/// Nothing, mostly; else ticks until the proved clock is about to go round.
+pub fn first_ticks(rng: &mut Prng) -> Vec<Operation> {
+    let ticks = if rng.below(2_000) == 0 { rng.between(ROUND - 250, ROUND) } else { 0 };
+    vec![Operation::Tick; ticks]
+}
+
+/// A list by chance with far operands among the others.
 pub fn random(rng: &mut Prng) -> Vec<Operation> {
     let commands = commands(rng);
-    let mut list = Vec::new();
-    if rng.below(2_000) == 0 {
-        list.resize(rng.between(ROUND - 250, ROUND), Operation::Tick);
-    }
+    let mut list = first_ticks(rng);
     for command in commands {
         if rng.percent(8) {
             list.push(far(rng));

@@ -1,11 +1,13 @@
 //! The operations for C against the other implementation, call by call.
 
+pub mod corners;
 pub mod cover;
 pub mod headers;
 pub mod list;
 pub mod map;
 pub mod operation;
 pub mod pair;
+pub mod seen;
 
 use crate::card::MARK;
 use reference::Refusal;

@@ -1,10 +1,11 @@
 //! Both implementations side by side: after each operation all that can be seen of either is compared.
 
 use super::operation::Operation;
+use super::seen::{self, frame_words, Seen};
 use super::{answered, put_out, refused, same};
 use crate::card::{Card, MARK};
 use reference::generate::coverage::Coverage;
-use reference::{claim_holds, Alias, Frame, Node, Refusal, Segment, State};
+use reference::{Frame, Limits, Refusal, Segment, Watch};
 
 /// Indexes and places that no node and no frame has.
 const NO_INDEX: [usize; 6] = [Segment::PLACES, 25, 255, 256, 1 << 32, usize::MAX];
@@ -16,6 +17,7 @@ pub struct Pair {
     /// The table's words after the last operation.
     words: Vec<u64>,
     operations: usize,
+    watch: Watch,
 }
 
 impl Default for Pair {
@@ -24,20 +26,20 @@ impl Default for Pair {
     }
 }
 
-/// Compares a list of operations from all nodes Off: whether it is late at its end, or what differs.
-pub fn compare(operations: &[Operation], cover: &mut Coverage) -> Result<bool, String> {
+/// Compares a list of operations from all nodes Off: its greatest ages, or what differs.
+pub fn compare(operations: &[Operation], cover: &mut Coverage) -> Result<Limits, String> {
     let mut pair = Pair::new();
     let result = operations.iter().try_for_each(|operation| pair.step(operation, cover));
     cover.end_script(&pair.segment);
     result.map_err(|what| format!("operation {}: {what}", pair.operations))?;
-    Ok(pair.card.is_late())
+    Ok(pair.watch.greatest)
 }
 
 impl Pair {
     pub fn new() -> Pair {
         let card = Card::new();
         let words = card.words().to_vec();
-        Pair { card, segment: Segment::new(), words, operations: 0 }
+        Pair { card, segment: Segment::new(), words, operations: 0, watch: Watch::default() }
     }
 
     /// Carries out an operation on both sides and compares all there is.
@@ -54,18 +56,31 @@ impl Pair {
         if !self.card.guards_hold() {
             return Err(format!("{operation} writes beside the table"));
         }
-        if !self.segment.is_late() && !claim_holds(&self.segment) {
-            return Err(format!("after {operation} the claim fails on a kept list"));
+        self.watch.see(&self.segment);
+        self.claim().map_err(|side| format!("after {operation} the claim fails {side}, with {:?}", self.watch.greatest))
+    }
+
+    /// Whether the claim holds on either side, or the ages are greater than A.3 allows.
+    fn claim(&self) -> Result<(), &'static str> {
+        if !self.watch.claim_held() {
+            return Err("in plain Rust");
+        }
+        if self.watch.greatest.are_allowed() && !seen::claim_holds(&self.seen()) {
+            return Err("on the proved table");
         }
         Ok(())
+    }
+
+    /// What the proved table shows of its nodes.
+    fn seen(&self) -> [Seen; Segment::PLACES] {
+        std::array::from_fn(|index| put_out(|words| self.card.look(index, words)).1)
     }
 
     /// Looks at everything. That changes nothing.
     fn look(&self) -> Result<(), String> {
         same(|| "late".to_string(), self.card.is_late(), self.segment.is_late())?;
         for index in 0..Segment::PLACES {
-            let node = self.segment.node(index);
-            let seen = seen(node, self.segment.inbox_len(index));
+            let seen = seen::of(self.segment.node(index), self.segment.inbox_len(index));
             same(|| format!("card_look(table, {index}, seen)"), put_out(|words| self.card.look(index, words)), (0, seen))?;
             self.look_in(index)?;
         }
@@ -104,30 +119,12 @@ fn sent_words(sent: Option<Frame>) -> [u64; 3] {
     sent.map_or([MARK; 3], |frame| [frame.header.into(), frame.len.into(), u64::from_be_bytes(frame.data)])
 }
 
-fn frame_words(frame: &Frame) -> [u64; 4] {
-    [frame.kind.into(), frame.header.into(), frame.len.into(), u64::from_be_bytes(frame.data)]
-}
-
-/// What c/card.h says is seen of a node.
-fn seen(node: &Node, inbox: usize) -> [u64; 12] {
-    let state = match node.state() {
-        State::Off => 0,
-        State::Testing => 1,
-        State::Reserved => 2,
-        State::Permitted => 3,
-        State::Leaving => 4,
-        State::Resting => 5,
-        State::Silent => 6,
-    };
-    let Alias(alias) = node.tested_alias().or(node.used_alias()).unwrap_or(Alias(0));
-    let due = node.due();
-    let [_, header, len, bytes] = due.map_or([0; 4], |frame| frame_words(&frame));
-    [state, node.id(), alias.into(), due.is_some().into(), header, len, bytes, inbox as u64, 0, 0, 0, 0]
-}
-
 #[cfg(test)]
 mod tests {
     use super::*;
+    use reference::generate::draft::Draft;
+    use reference::generate::slow::{slow_amr, slow_reply};
+    use reference::State;
 
     const ON: Operation = Operation::PowerOn { index: 3, id: 0x0501_0101_0101 };
 
@@ -196,7 +193,7 @@ mod tests {
     fn lateness_is_compared() {
         let mut list = vec![ON, Operation::Foreign { kind: 0, header: 0x1070_0001, len: 0, bytes: 0 }];
         list.extend([Operation::Tick; 41]);
-        assert_eq!(compare(&list, &mut Coverage::new()), Ok(true));
+        assert_eq!(compare(&list, &mut Coverage::new()), Ok(Limits::new(41, 0)));
         let mut pair = on();
         for _ in 0..41 {
             pair.segment.tick();
@@ -210,5 +207,44 @@ mod tests {
             pair.segment.tick();
         }
         assert!(pair.look().is_err());
+    }
+
+    /// Both sides after a list, and after node 1 has tried to send.
+    fn after(mut draft: Draft) -> Pair {
+        draft.send(1);
+        let mut pair = Pair::new();
+        for command in draft.list {
+            pair.step(&command.into(), &mut Coverage::new()).expect("both sides agree, and the claim holds where A.3 demands it");
+        }
+        pair
+    }
+
+    #[test]
+    fn the_proved_table_keeps_the_claim_at_corners_and_not_outside() {
+        for (inbox, waiting) in [(100, 0), (0, 100), (66, 66), (67, 66), (66, 67)] {
+            let limits = Limits::new(inbox, waiting);
+            for pair in [after(slow_reply(limits)), after(slow_amr(limits))] {
+                assert_eq!(pair.watch, Watch { greatest: limits, broken: None });
+                assert!(seen::claim_holds(&pair.seen()));
+            }
+        }
+        let (reply, amr, both) = (Limits::new(68, 65), Limits::new(65, 68), Limits::new(67, 67));
+        for (draft, limits) in
+            [(slow_reply(reply), reply), (slow_amr(amr), amr), (slow_reply(both), both), (slow_amr(both), both)]
+        {
+            let pair = after(draft);
+            assert_eq!(pair.watch, Watch { greatest: limits, broken: Some(limits) });
+            assert!(!seen::claim_holds(&pair.seen()));
+        }
+    }
+
+    #[test]
+    fn the_claim_is_checked_on_either_side_while_the_ages_are_allowed() {
+        let mut pair = after(slow_reply(Limits::new(68, 65)));
+        assert_eq!(pair.claim(), Ok(()), "the ages are not allowed");
+        pair.watch = Watch::default();
+        assert_eq!(pair.claim(), Err("on the proved table"));
+        pair.watch.see(&pair.segment);
+        assert_eq!(pair.claim(), Err("in plain Rust"));
     }
 }

@@ -5,6 +5,7 @@ use crate::generate::filler;
 use crate::generate::prng::Prng;
 use crate::generate::scenarios;
 use crate::generate::walker::{walk, Temper};
+use crate::limits::Limits;
 use crate::script;
 
 /// The corpus is always made from this seed.
@@ -23,8 +24,8 @@ pub fn scripts(seed: u64) -> Vec<Vec<u8>> {
     for walks in 0..WALKS {
         let commands = if walks % 6 == 0 { 1_500 } else { 350 };
         let mut temper = Temper::random(&mut rng, commands);
-        temper.kept = walks % 2 == 0;
-        if !temper.kept {
+        temper.limits = (walks % 2 == 0).then_some(Limits::KEPT);
+        if temper.limits.is_none() {
             temper.tick_run = temper.tick_run.max(41);
         }
         let script = walk(&mut rng, temper);

@@ -1,6 +1,7 @@
 //! Scripts and lists made from a seed, the coverage they reach, and the stored corpora.
 
 pub mod cases;
+pub mod contests;
 pub mod corpus;
 pub mod coverage;
 pub mod draft;
@@ -11,4 +12,5 @@ pub mod map_corpus;
 pub mod marks;
 pub mod prng;
 pub mod scenarios;
+pub mod slow;
 pub mod walker;

@@ -1,6 +1,6 @@
 //! Scripts written on purpose: each one tells a story that document 01 or 002 suggests.
 
-use crate::alias::{self, MAX_48};
+use crate::alias::{self, ALIASES, MAX_48};
 use crate::command::{Command, OPERANDS};
 use crate::frame::{Frame, ELEVEN_BIT, REMOTE};
 use crate::generate::draft::Draft;
@@ -10,7 +10,7 @@ use crate::inbox::Inbox;
 use crate::node::State;
 use crate::segment::Segment;
 
-const ID: u64 = 0x0501_0101_0101;
+pub(crate) const ID: u64 = 0x0501_0101_0101;
 
 /// The script that document 01 prints with its whole output.
 pub const SAMPLE: [u8; 14] =
@@ -342,9 +342,9 @@ fn aimed_at_six(goal: State, headers: &[u32]) -> Vec<u8> {
 /// All 24 on one breaker: different Node IDs, one first alias, one Node ID; in time and not.
 fn breakers() -> Vec<Vec<u8>> {
     let ids = |step: u64| -> Vec<u64> { (0..24).map(|k| ID + step * k).collect() };
-    let mut scripts = vec![Draft::permitted(&ids(1)).bytes, Draft::permitted(&ids(4095)).bytes];
+    let mut scripts = vec![Draft::permitted(&ids(1)).bytes, Draft::permitted(&ids(ALIASES)).bytes];
     scripts.push(Draft::permitted(&ids(0)).bytes);
-    scripts.push(nobody_delivers(&ids(4095)));
+    scripts.push(nobody_delivers(&ids(ALIASES)));
     scripts
 }
 
@@ -465,7 +465,7 @@ fn malformed_frames() -> Vec<u8> {
 /// Two nodes test one alias and cross on the bus: the frame that came first decides.
 fn crossing_reservations() -> Vec<u8> {
     let mut draft = Draft::new();
-    draft.power_on(0, ID).power_on(1, ID + 4095);
+    draft.power_on(0, ID).power_on(1, ID + ALIASES);
     for _ in 0..4 {
         draft.send(0).send(1);
     }

@@ -1,14 +1,16 @@
-//! Random scripts and lists, guided by the segment they make: kept ones and late ones.
+//! Random scripts and lists, guided by the segment they make: within given limits, and without any.
 
-use crate::alias::{Alias, MAX_48};
+use crate::alias::{Alias, ALIASES, MAX_48};
 use crate::command::Command;
 use crate::frame::Frame;
 use crate::generate::cases::Case;
 use crate::generate::draft::Draft;
 use crate::generate::prng::Prng;
 use crate::inbox::Inbox;
-use crate::node::{Node, State};
-use crate::segment::{claim_holds, Segment};
+use crate::limits::Limits;
+use crate::node::{Node, Owed, Phase, State};
+use crate::segment::Segment;
+use crate::watch::Watch;
 
 /// How a script goes about it.
 #[derive(Clone, Debug)]
@@ -16,8 +18,10 @@ pub struct Temper {
     /// Indexes that are switched on, from 0 up.
     pub nodes: usize,
     pub node_ids: Vec<u64>,
-    /// Whether every age is ended at 40 at the latest.
-    pub kept: bool,
+    /// The limits at which every age is ended at the latest, if there are any.
+    pub limits: Option<Limits>,
+    /// Whether tests go on at once, and ages mostly up to their limit.
+    pub pressing: bool,
     /// About how many commands, and the longest run of ticks at once.
     pub commands: usize,
     pub tick_run: usize,
@@ -42,7 +46,8 @@ impl Temper {
         Temper {
             nodes,
             node_ids: node_ids(rng, nodes),
-            kept: rng.percent(75),
+            limits: rng.percent(75).then_some(Limits::KEPT),
+            pressing: false,
             commands,
             tick_run: rng.pick(&[1, 5, 40, 41, 60]),
             weights,
@@ -59,8 +64,8 @@ fn node_ids(rng: &mut Prng, count: usize) -> Vec<u64> {
         .map(|k| match sort {
             0 => base,
             1 => base + k,
-            2 => base + 4095 * k,
-            3 => base + 4095 * (k / 2) + k % 2,
+            2 => base + ALIASES * k,
+            3 => base + ALIASES * (k / 2) + k % 2,
             _ => 1 + rng.number() % 0xFFFF_FFFF_FFFF,
         })
         .collect()
@@ -68,8 +73,17 @@ fn node_ids(rng: &mut Prng, count: usize) -> Vec<u64> {
 
 /// A Node ID near this one, whose first alias is the given one.
 fn contender(id: u64, alias: Alias) -> u64 {
-    let low = id.clamp(4095, MAX_48 - 4095);
-    low - low % 4095 + u64::from(alias.0) - 1
+    let low = id.clamp(ALIASES, MAX_48 - ALIASES);
+    low - low % ALIASES + u64::from(alias.0) - 1
+}
+
+/// How many ticks a node has waited to reserve the alias that it tests.
+fn waited(node: &Node) -> u8 {
+    match node.phase() {
+        Phase::Wait(ticks) => ticks,
+        Phase::Reserve => Node::WAIT,
+        _ => 0,
+    }
 }
 
 pub struct Walker<'a> {
@@ -77,13 +91,12 @@ pub struct Walker<'a> {
     rng: &'a mut Prng,
     temper: Temper,
     commands: usize,
-    /// Whether the claim held after every command, in a list kept so far.
-    pub claim_held: bool,
-    /// The most nodes that used an alias at once while the list was kept.
+    pub watch: Watch,
+    /// The most nodes that used an alias at once while A.3 allowed the ages; so for all below.
     pub most_users: usize,
-    /// Whether one node tested an alias that another used, while the list was kept.
-    pub contested: bool,
-    /// Whether an error report waited while the list was kept.
+    /// The longest that a node had waited, in ticks, to reserve an alias that another used.
+    pub contested: Option<u8>,
+    /// Whether an error report waited.
     pub reported: bool,
 }
 
@@ -117,9 +130,9 @@ impl<'a> Walker<'a> {
             rng,
             temper,
             commands: 0,
-            claim_held: true,
+            watch: Watch::default(),
             most_users: 0,
-            contested: false,
+            contested: None,
             reported: false,
         }
     }
@@ -142,8 +155,8 @@ impl<'a> Walker<'a> {
     fn push(&mut self, command: Command) {
         self.draft.push(command);
         self.commands += 1;
-        if !self.draft.segment.is_late() {
-            self.claim_held &= claim_holds(&self.draft.segment);
+        self.watch.see(&self.draft.segment);
+        if self.watch.greatest.are_allowed() {
             self.watch_nodes();
         }
     }
@@ -151,10 +164,11 @@ impl<'a> Walker<'a> {
     fn watch_nodes(&mut self) {
         let nodes = || (0..Segment::PLACES).map(|place| self.draft.segment.node(place));
         let users: Vec<Alias> = nodes().filter_map(Node::used_alias).collect();
-        let contested = nodes().filter_map(Node::tested_alias).any(|alias| users.contains(&alias));
+        let tests = nodes().filter(|node| node.tested_alias().is_some_and(|a| users.contains(&a)));
+        let contested = tests.map(waited).max();
         let reported = nodes().any(|node| node.waiting().error.is_some());
         self.most_users = self.most_users.max(users.len());
-        self.contested |= contested;
+        self.contested = self.contested.max(contested);
         self.reported |= reported;
     }
 
@@ -202,7 +216,7 @@ impl<'a> Walker<'a> {
 
     fn send_some(&mut self, index: u8) {
         let index = self.seek(index, |i| self.draft.has_due(i));
-        if self.temper.kept && self.rng.percent(90) {
+        if self.temper.limits.is_some() && self.rng.percent(90) {
             self.make_room();
         }
         self.push(Command::Send { index });
@@ -219,11 +233,33 @@ impl<'a> Walker<'a> {
 
     fn ticks(&mut self) {
         for _ in 0..self.rng.between(1, self.temper.tick_run) {
-            if self.temper.kept {
-                self.end_old_ages();
+            if self.temper.pressing {
+                self.send_tests();
+            }
+            if let Some(limits) = self.temper.limits {
+                self.end_old_ages(limits);
             }
             self.push(Command::Tick);
         }
+    }
+
+    /// Lets the nodes on their way to Permitted go as far as they can, but for reply RIDs.
+    fn send_tests(&mut self) {
+        for index in self.draft.on() {
+            if self.rng.percent(95) {
+                while self.tests(index) {
+                    self.make_room();
+                    self.push(Command::Send { index });
+                }
+            }
+        }
+    }
+
+    /// Whether a node has a frame to send on its way to Permitted, and no reply RID before it.
+    fn tests(&self, index: u8) -> bool {
+        let node = self.draft.segment.node(usize::from(index));
+        let on_the_way = matches!(node.state(), State::Testing | State::Reserved);
+        on_the_way && node.due().is_some() && node.owed() == Owed::Nothing
     }
 
     /// Delivers one frame from every full inbox.
@@ -235,24 +271,42 @@ impl<'a> Walker<'a> {
         }
     }
 
-    /// Ends every age that the next tick would bring to 41.
-    fn end_old_ages(&mut self) {
-        for index in self.draft.on() {
-            while self.draft.segment.inbox_age(usize::from(index)) == Some(Segment::LATENESS) {
-                self.push(Command::Deliver { index });
+    /// Ends every age that the next tick would bring above its limit. Under a limit of 0 this can
+    /// begin another that has to end.
+    fn end_old_ages(&mut self, limits: Limits) {
+        while (0..Segment::PLACES).any(|place| self.is_at_limit(place, limits)) {
+            for index in self.draft.on() {
+                while self.draft.segment.inbox_age(usize::from(index)) == Some(limits.inbox) {
+                    self.push(Command::Deliver { index });
+                }
             }
-        }
-        for index in self.draft.on() {
-            if self.draft.segment.owed_age(usize::from(index)) == Some(Segment::LATENESS) {
-                self.make_room();
-                self.push(Command::Send { index });
+            for index in self.draft.on() {
+                if self.draft.segment.owed_age(usize::from(index)) == Some(limits.waiting) {
+                    self.end_waiting(index);
+                }
             }
         }
     }
 
+    fn is_at_limit(&self, place: usize, limits: Limits) -> bool {
+        let segment = &self.draft.segment;
+        segment.inbox_age(place) == Some(limits.inbox)
+            || segment.owed_age(place) == Some(limits.waiting)
+    }
+
+    /// Sends a reply RID or an AMR. Under pressure a release drops some replies, and an AMR waits.
+    fn end_waiting(&mut self, index: u8) {
+        let permitted = self.draft.state(index) == State::Permitted;
+        if permitted && self.temper.pressing && self.rng.percent(40) {
+            return self.push(Command::Release { index });
+        }
+        self.make_room();
+        self.push(Command::Send { index });
+    }
+
     /// A frame aimed at a node, or at another than the one whose state decides its case.
     fn foreign(&mut self, index: u8) {
-        if self.temper.kept {
+        if self.temper.limits.is_some() {
             self.make_room();
         }
         let case = self.rng.pick(&Case::ALL);

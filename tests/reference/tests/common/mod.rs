@@ -1,9 +1,15 @@
-//! A node brought to a state, and its report, for the tests of single points. Not every test needs
-//! all of it.
+//! The seed of random tests; a node brought to a state, and its report, for the tests of single
+//! points. Not every test needs all of it.
 #![allow(dead_code)]
 
 use reference::generate::draft::Draft;
 use reference::{Frame, Refusal, State};
+
+/// Another seed can be given as SEED.
+pub fn seed() -> u64 {
+    let given = std::env::var("SEED").ok();
+    given.map_or(0x0201_2100_0001, |text| text.parse().expect("SEED is a whole number"))
+}
 
 pub const ID: u64 = 0x0501_0101_0101;
 
