@@ -243,23 +243,27 @@ impl<'a> Walker<'a> {
         }
     }
 
-    /// Lets the nodes on their way to Permitted go as far as they can, but for reply RIDs.
+    /// Lets testing nodes send all that is due, mostly, and Reserved ones now and then their AMD.
     fn send_tests(&mut self) {
         for index in self.draft.on() {
-            if self.rng.percent(95) {
-                while self.tests(index) {
-                    self.make_room();
-                    self.push(Command::Send { index });
-                }
+            while self.tests(index) {
+                self.make_room();
+                self.push(Command::Send { index });
             }
         }
     }
 
-    /// Whether a node has a frame to send on its way to Permitted, and no reply RID before it.
-    fn tests(&self, index: u8) -> bool {
+    /// Whether a node on its way to Permitted sends now. A reply RID waits.
+    fn tests(&mut self, index: u8) -> bool {
         let node = self.draft.segment.node(usize::from(index));
-        let on_the_way = matches!(node.state(), State::Testing | State::Reserved);
-        on_the_way && node.due().is_some() && node.owed() == Owed::Nothing
+        if node.due().is_none() || node.owed() != Owed::Nothing {
+            return false;
+        }
+        match node.state() {
+            State::Testing => self.rng.percent(98),
+            State::Reserved => self.rng.percent(1),
+            _ => false,
+        }
     }
 
     /// Delivers one frame from every full inbox.
