@@ -59,6 +59,11 @@ impl State {
         State::Silent,
     ];
 
+    /// Whether a node in this state uses its alias.
+    pub fn uses_alias(self) -> bool {
+        matches!(self, State::Reserved | State::Permitted | State::Leaving)
+    }
+
     pub fn name(self) -> &'static str {
         ["Off", "Testing", "Reserved", "Permitted", "Leaving", "Resting", "Silent"][self as usize]
     }

@@ -50,7 +50,7 @@ impl Explain {
         self.put_ticks();
         let why = match &self.late {
             Some(late) => words::late(late),
-            None => words::KEPT.into(),
+            None => words::kept(),
         };
         self.put(last, &why, self.late.is_none());
         self.text

@@ -1,6 +1,7 @@
 //! What the tool `lcc` is made of. It has no behaviour of its own: every answer and every state comes from the proved library.
 
 pub mod actions;
+pub mod ages;
 pub mod card;
 pub mod command;
 pub mod expand;
@@ -15,6 +16,7 @@ pub mod picture;
 pub mod play;
 pub mod progress;
 pub mod script;
+pub mod shared;
 pub mod spell;
 pub mod summary;
 pub mod told;

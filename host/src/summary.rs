@@ -1,10 +1,13 @@
-//! The table at the end of a run: a row for each exhibit, collisions, link states that were told, and whether the list was kept.
+//! The table at the end of a run: a row for each exhibit, collisions, link states that were told, whether the list was kept, and
+//! how old frames became in it.
 
+use crate::ages::Ages;
 use crate::card::{Card, Seen, State, PLACES};
 use crate::command::Command;
 use crate::frame::{Frame, Sort};
 use crate::hex::dotted_id;
 use crate::paint::Paint;
+use crate::shared::Shared;
 use crate::told::Told;
 use crate::watch::{Arrival, Late, Moment};
 use crate::words;
@@ -52,12 +55,14 @@ impl Collision {
 pub struct Summary {
     rows: [Row; PLACES],
     collisions: Vec<Collision>,
+    shared: Vec<Shared>,
     links: Vec<Told>,
     commands: usize,
     refused: usize,
     ticks: usize,
     frames: usize,
     late: Option<Late>,
+    longest: Ages,
 }
 
 impl Summary {
@@ -67,8 +72,10 @@ impl Summary {
         self.ticks = moment.tick;
         self.frames += usize::from(moment.on_the_bus().is_some());
         self.collisions.extend(Collision::of(moment));
+        self.shared.extend(Shared::of(moment));
         self.links.extend(Told::of(moment));
         self.late = self.late.or(moment.late);
+        self.longest = moment.longest;
         for (index, row) in self.rows.iter_mut().enumerate() {
             let (before, after) = (moment.before[index].state, moment.after[index].state);
             if moment.restarted(index) {
@@ -98,6 +105,7 @@ impl Summary {
         }
         text += &format!("\n{}\n", totals(&seen));
         text += &self.collisions_text();
+        text += &self.shared_text();
         text += &self.links_text();
         let (commands, refused) =
             (words::count(self.commands, "command", "commands"), self.refused);
@@ -106,7 +114,7 @@ impl Summary {
             "{commands}, {refused} of them refused; {ticks}; {} on the bus.\n",
             words::count(frames, "frame", "frames")
         );
-        text + &self.verdict(paint) + "\n"
+        text + &self.verdict(paint) + "\n" + &self.ages_text(paint)
     }
 
     fn row(&self, from: usize, to: usize, seen: &Seen, paint: Paint) -> String {
@@ -145,6 +153,14 @@ impl Summary {
         named(&head, self.collisions.iter().map(Collision::words))
     }
 
+    /// Where no two nodes came to use one alias there is nothing to say.
+    fn shared_text(&self) -> String {
+        if self.shared.is_empty() {
+            return String::new();
+        }
+        named("Nodes came to use one alias", self.shared.iter().map(Shared::words))
+    }
+
     /// Where no node was told its link state there is nothing to say.
     fn links_text(&self) -> String {
         let count = self.links.len();
@@ -158,8 +174,19 @@ impl Summary {
     fn verdict(&self, paint: Paint) -> String {
         match &self.late {
             Some(late) => paint.red(&words::late(late)),
-            None => paint.green(&format!("kept: {}", words::KEPT)),
+            None => paint.green(&format!("kept: {}", words::kept())),
         }
+    }
+
+    /// The greatest ages; of a list that is late, also what request A.3 says of them.
+    fn ages_text(&self, paint: Paint) -> String {
+        let figures = self.longest.words() + "\n";
+        if self.late.is_none() {
+            return figures;
+        }
+        let promise = self.longest.promise();
+        let single = self.longest.keep_aliases_single();
+        figures + &if single { paint.green(&promise) } else { paint.red(&promise) } + "\n"
     }
 }
 
@@ -227,11 +254,10 @@ pub fn totals(seen: &[Seen; PLACES]) -> String {
     )
 }
 
-/// A node uses its alias in Reserved, Permitted and Leaving.
+/// How many nodes use how many aliases.
 fn aliases_in_use(seen: &[Seen; PLACES]) -> String {
-    let uses =
-        |node: &&Seen| matches!(node.state, State::Reserved | State::Permitted | State::Leaving);
-    let mut used: Vec<u16> = seen.iter().filter(uses).map(|node| node.alias).collect();
+    let users = seen.iter().filter(|node| node.state.uses_alias());
+    let mut used: Vec<u16> = users.map(|node| node.alias).collect();
     let users = used.len();
     used.sort_unstable();
     used.dedup();
@@ -241,6 +267,8 @@ fn aliases_in_use(seen: &[Seen; PLACES]) -> String {
         (users, aliases) if users == aliases => {
             format!("{aliases} aliases in use, no two the same")
         }
-        (users, aliases) => format!("{users} use {aliases} aliases: TWO USE ONE"),
+        (users, aliases) => {
+            format!("{users} use {}: TWO USE ONE", words::count(aliases, "alias", "aliases"))
+        }
     }
 }

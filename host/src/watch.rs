@@ -1,7 +1,9 @@
-//! What a run shows: all nodes before and after each command, when each frame came into an inbox, and what made a list late.
+//! What a run shows: all nodes before and after each command, when each frame came into an inbox, how old frames have become, and
+//! what made a list late.
 
 use std::collections::VecDeque;
 
+use crate::ages::{Ages, KEPT};
 use crate::card::{Answer, Card, Seen, State, PLACES};
 use crate::command::Command;
 use crate::frame::{Frame, Sort};
@@ -32,19 +34,25 @@ pub struct Owed {
     pub count: usize,
 }
 
-/// What had stood or waited too long.
+/// A frame that has an age.
 #[derive(Clone, Copy, Debug, PartialEq, Eq)]
-pub enum Overdue {
+pub enum Aged {
     Inbox(Arrival),
     Due(Owed),
 }
 
-impl Overdue {
-    fn since(&self) -> usize {
+impl Aged {
+    /// The tick and the command since which it stands or waits.
+    pub fn since(&self) -> (usize, usize) {
         match self {
-            Overdue::Inbox(arrival) => arrival.tick,
-            Overdue::Due(owed) => owed.tick,
+            Aged::Inbox(arrival) => (arrival.tick, arrival.count),
+            Aged::Due(owed) => (owed.tick, owed.count),
         }
+    }
+
+    /// How old it is after so many ticks of the list.
+    pub fn age(&self, tick: usize) -> usize {
+        tick - self.since().0
     }
 }
 
@@ -54,7 +62,7 @@ pub struct Late {
     pub tick: usize,
     pub count: usize,
     pub index: usize,
-    pub what: Overdue,
+    pub what: Aged,
     pub others: usize,
 }
 
@@ -68,9 +76,37 @@ pub struct Moment {
     pub delivered: Option<Arrival>,
     /// Set where the list became late by this command.
     pub late: Option<Late>,
+    /// What has stood or waited too long from this command on, with its node.
+    pub overdue: Vec<(usize, Aged)>,
+    /// What had stood or waited too long, and was delivered, left or was dropped by this command.
+    pub ended: Vec<(usize, Aged)>,
+    /// The greatest ages of the list up to this command.
+    pub longest: Ages,
 }
 
 impl Moment {
+    /// A command and what the nodes show before and after it.
+    fn new(turn: &Turn, tick: usize, before: [Seen; PLACES], after: [Seen; PLACES]) -> Moment {
+        let (overdue, ended, longest) = (Vec::new(), Vec::new(), Ages::default());
+        Moment {
+            turn: *turn,
+            tick,
+            before,
+            after,
+            delivered: None,
+            late: None,
+            overdue,
+            ended,
+            longest,
+        }
+    }
+
+    /// A frame of this node, where there was one, has an age no more.
+    fn end(&mut self, index: usize, frame: Option<Aged>) {
+        let overdue = frame.filter(|frame| frame.age(self.tick) > KEPT);
+        self.ended.extend(overdue.map(|frame| (index, frame)));
+    }
+
     pub fn command(&self) -> Option<Command> {
         self.turn.command()
     }
@@ -139,6 +175,7 @@ pub struct Watch {
     owed: [Option<Owed>; PLACES],
     tick: usize,
     late: bool,
+    longest: Ages,
 }
 
 impl Watch {
@@ -146,25 +183,30 @@ impl Watch {
     pub fn look(&mut self, turn: &Turn, card: &Card) -> Moment {
         let after = card.look_at_all();
         let before = std::mem::replace(&mut self.seen, after);
-        self.tick += usize::from(turn.command() == Some(Command::Tick));
-        let mut moment =
-            Moment { turn: *turn, tick: self.tick, before, after, delivered: None, late: None };
-        moment.delivered = self.inboxes(&moment, card);
-        self.owed(&moment);
+        let ticks = turn.command() == Some(Command::Tick);
+        self.tick += usize::from(ticks);
+        let mut moment = Moment::new(turn, self.tick, before, after);
+        moment.delivered = self.inboxes(&mut moment, card);
+        self.owed(&mut moment);
+        if ticks {
+            self.grow_older(&mut moment);
+        }
+        moment.longest = self.longest;
         if !self.late && card.is_late() {
             self.late = true;
-            moment.late = self.oldest(turn.count);
+            moment.late = first_late(&moment);
         }
         moment
     }
 
     /// Brings the record of inboxes up to what the card has; gives the frame that a delivery took.
-    fn inboxes(&mut self, moment: &Moment, card: &Card) -> Option<Arrival> {
+    fn inboxes(&mut self, moment: &mut Moment, card: &Card) -> Option<Arrival> {
         let mut taken = None;
         let from = moment.on_the_bus().map_or(Sender::Foreign, |(_, from)| from);
         for (index, inbox) in self.inboxes.iter_mut().enumerate() {
             while inbox.len() > moment.after[index].inbox {
                 taken = inbox.pop_front();
+                moment.end(index, taken.map(Aged::Inbox));
             }
             while let Some(frame) = card.inbox(index, inbox.len()) {
                 inbox.push_back(Arrival { frame, from, tick: self.tick, count: moment.turn.count });
@@ -174,28 +216,49 @@ impl Watch {
     }
 
     /// Since when each node has had a reply RID or an AMR due.
-    fn owed(&mut self, moment: &Moment) {
-        for (owed, seen) in self.owed.iter_mut().zip(&moment.after) {
+    fn owed(&mut self, moment: &mut Moment) {
+        for (index, owed) in self.owed.iter_mut().enumerate() {
+            let seen = moment.after[index];
             let now = seen.due.filter(|frame| has_an_age(seen.state, frame));
             if owed.map(|owed| owed.frame) != now {
+                moment.end(index, owed.map(Aged::Due));
                 *owed = now.map(|frame| Owed { frame, tick: self.tick, count: moment.turn.count });
             }
         }
     }
 
-    /// The oldest of all frames that have an age.
-    fn oldest(&self, count: usize) -> Option<Late> {
+    /// All frames that have an age, with their nodes.
+    fn aged(&self) -> impl Iterator<Item = (usize, Aged)> + '_ {
         let stood = self.inboxes.iter().enumerate();
         let stood = stood
-            .flat_map(|(i, inbox)| inbox.iter().map(move |arrival| (i, Overdue::Inbox(*arrival))));
+            .flat_map(|(i, inbox)| inbox.iter().map(move |arrival| (i, Aged::Inbox(*arrival))));
         let waited = self.owed.iter().enumerate();
-        let waited = waited.filter_map(|(i, owed)| owed.map(|owed| (i, Overdue::Due(owed))));
-        let all: Vec<(usize, Overdue)> = stood.chain(waited).collect();
-        let since = all.iter().map(|(_, what)| what.since()).min()?;
-        let mut oldest = all.iter().filter(|(_, what)| what.since() == since);
-        let &(index, what) = oldest.next()?;
-        Some(Late { tick: self.tick, count, index, what, others: oldest.count() })
+        stood.chain(waited.filter_map(|(i, owed)| owed.map(|owed| (i, Aged::Due(owed)))))
     }
+
+    /// What a tick does to all ages.
+    fn grow_older(&mut self, moment: &mut Moment) {
+        let mut longest = self.longest;
+        for (index, frame) in self.aged() {
+            let age = frame.age(self.tick);
+            let greatest = match frame {
+                Aged::Inbox(_) => &mut longest.stood,
+                Aged::Due(_) => &mut longest.waited,
+            };
+            *greatest = age.max(*greatest);
+            if age == KEPT + 1 {
+                moment.overdue.push((index, frame));
+            }
+        }
+        self.longest = longest;
+    }
+}
+
+/// What made a list late: the first that is overdue by this command.
+fn first_late(moment: &Moment) -> Option<Late> {
+    let (&(index, what), others) = moment.overdue.split_first()?;
+    let (tick, count) = (moment.tick, moment.turn.count);
+    Some(Late { tick, count, index, what, others: others.len() })
 }
 
 /// Of due frames, a reply RID and an AMR have an age; the RID that reserves an alias has none.

@@ -1,13 +1,15 @@
 //! Frames, nodes and refusals in words.
 
+use crate::ages::KEPT;
 use crate::card::{Seen, State};
 use crate::frame::{Frame, Sort, ELEVEN_BIT, REMOTE};
 use crate::hex::joined;
-use crate::watch::{Late, Overdue, Sender};
+use crate::watch::{Aged, Late, Sender};
 
 /// What it means that a list is kept.
-pub const KEPT: &str =
-    "no frame has stood in an inbox, and no reply RID or AMR has waited, for more than 40 ticks";
+pub fn kept() -> String {
+    format!("no frame has stood in an inbox, and no reply RID or AMR has waited, for more than {KEPT} ticks")
+}
 
 /// What a frame is: its sort, its alias, what it carries.
 pub fn frame(frame: &Frame) -> String {
@@ -130,14 +132,14 @@ pub fn refusal(number: u64) -> &'static str {
 pub fn late(late: &Late) -> String {
     let Late { tick, index, others, .. } = late;
     let what = match late.what {
-        Overdue::Inbox(arrival) => format!(
+        Aged::Inbox(arrival) => format!(
             "{}, from {}, has stood in the inbox of node {index} since tick {} (command {})",
             frame(&arrival.frame),
             sender(arrival.from),
             arrival.tick,
             arrival.count
         ),
-        Overdue::Due(owed) => format!(
+        Aged::Due(owed) => format!(
             "{}, has been due at node {index} since tick {} (command {})",
             frame(&owed.frame),
             owed.tick,

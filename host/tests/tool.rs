@@ -378,7 +378,7 @@ fn link_orders_are_summed_up_and_drawn() {
     assert!(!summed_up(PERMITTED).contains("link"));
 }
 
-/// Lists, and what the last line says of each. Those that power no node on follow one that is Permitted at tick 204.
+/// Lists, and what the verdict says of each. Those that power no node on follow one that is Permitted at tick 204.
 const LISTS: [(&str, &str); 8] = [
     (
         "on 0 050101010101\ntick 2\nforeign RID 111\ntick 41\n",
@@ -413,8 +413,9 @@ fn the_frame_that_was_late_is_named() {
     for (list, words) in LISTS {
         let before = if list.starts_with("on") { "" } else { PERMITTED };
         let text = summed_up(&format!("{before}{list}"));
-        let last = text.lines().last().expect("a table");
-        assert!(last.contains(words), "{list}: {last}");
+        let verdict = |line: &&str| line.starts_with("kept: ") || line.starts_with("late from ");
+        let verdict = text.lines().find(verdict).expect("a table");
+        assert!(verdict.contains(words), "{list}: {verdict}");
     }
 }
 

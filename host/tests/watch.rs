@@ -1,13 +1,16 @@
-//! What the tool keeps in mind of a run, against what the card shows: frames as they are delivered, and how old a late one is.
+//! What the tool keeps in mind of a run, against what the card shows: frames as they are delivered, how old they became, and
+//! aliases that two nodes use.
 
 mod random;
 
-use lcc::card::{Answer, Card, State, PLACES};
+use lcc::ages::Ages;
+use lcc::card::{Answer, Card, Seen, State, PLACES};
 use lcc::command::Command;
 use lcc::expand::{expand, Expanded};
 use lcc::frame::{Frame, Sort};
+use lcc::shared::Shared;
 use lcc::told::Told;
-use lcc::watch::{Late, Moment, Overdue, Watch};
+use lcc::watch::{Aged, Late, Moment, Watch};
 use lcc::{play, script};
 use random::Random;
 
@@ -92,16 +95,75 @@ fn what_is_late_is_41_ticks_old() {
     for seed in 0..SCRIPTS {
         moments(seed, |moment, _| {
             let Some(Late { tick, what, .. }) = moment.late else { return };
-            let since = match what {
-                Overdue::Inbox(arrival) => arrival.tick,
-                Overdue::Due(owed) => owed.tick,
-            };
-            assert_eq!(tick - since, 41, "seed {seed}, {:?}", moment.turn);
-            stood += usize::from(matches!(what, Overdue::Inbox(_)));
-            waited += usize::from(matches!(what, Overdue::Due(_)));
+            assert_eq!(what.age(tick), 41, "seed {seed}, {:?}", moment.turn);
+            stood += usize::from(matches!(what, Aged::Inbox(_)));
+            waited += usize::from(matches!(what, Aged::Due(_)));
         });
     }
     assert!(stood > 100 && waited > 10, "{stood} stood, {waited} waited");
+}
+
+/// The greatest ages are counted as the card counts them: at every command it is late exactly when one of them is above its limit.
+#[test]
+fn the_card_is_late_by_the_greatest_ages() {
+    let (mut stood, mut waited) = (0, 0);
+    for seed in 0..SCRIPTS {
+        let (mut watch, mut last) = (Watch::default(), Ages::default());
+        let script = script_of(seed);
+        play::play(&script.bytes, &script.links, &mut Card::new(), |turn, card| {
+            last = watch.look(turn, card).longest;
+            assert_eq!(last.are_kept(), !card.is_late(), "seed {seed}, {last:?}, {turn:?}");
+        });
+        stood += usize::from(!Ages { waited: 0, ..last }.are_kept());
+        waited += usize::from(!Ages { stood: 0, ..last }.are_kept());
+    }
+    assert!(stood > 100 && waited > 50, "{stood} stood, {waited} waited");
+}
+
+/// Two nodes that contest one alias, one that uses it and one that tests it, with random delays: while the CIDs stand, while the
+/// reply waits, and while the reply stands or an AMR waits.
+fn contest(seed: u64) -> Expanded {
+    let random = &mut Random::new(seed);
+    let mut delay = || 30 + random.below(60);
+    let (first, second, third) = (delay(), delay(), delay());
+    let answer = if seed % 2 == 0 { "send 0" } else { "release 0" };
+    let text = format!(
+        "on 0 050101010101\nsettle 204\nsend 0\nsend 0\non 1 050101011100\nsend 1\nsend 1\nsend 1\nsend 1\n\
+         tick {first}\ndeliver all\ntick {second}\n{answer}\ntick {third}\nsend 1\nsend all\ndeliver all\nsettle 2\n"
+    );
+    expand(&script::parse(&text).expect("it is right"))
+}
+
+/// Whether two nodes use one alias.
+fn is_shared(seen: &[Seen; PLACES]) -> bool {
+    let users: Vec<&Seen> = seen.iter().filter(|node| node.state.uses_alias()).collect();
+    (1..users.len()).any(|i| users[..i].iter().any(|other| other.alias == users[i].alias))
+}
+
+/// What request A.3 promises, as far as the tool can see it; and an alias that two nodes use is told by the command that led to it.
+#[test]
+fn aliases_are_single_while_the_sums_are_low() {
+    let (mut late_and_single, mut shared) = (0, 0);
+    for seed in 0..SCRIPTS {
+        for script in [script_of(seed), contest(seed)] {
+            let mut watch = Watch::default();
+            let (mut was_shared, mut single_while_late) = (false, false);
+            play::play(&script.bytes, &script.links, &mut Card::new(), |turn, card| {
+                let moment = watch.look(turn, card);
+                let is_shared = is_shared(&moment.after);
+                let single = moment.longest.keep_aliases_single();
+                assert!(!(single && is_shared), "seed {seed}, {turn:?}");
+                let told = Shared::of(&moment).is_some();
+                assert!(!told || is_shared, "seed {seed}, {turn:?}");
+                assert!(told || was_shared || !is_shared, "seed {seed}, {turn:?}");
+                was_shared = is_shared;
+                single_while_late = single && card.is_late();
+                shared += usize::from(told);
+            });
+            late_and_single += usize::from(single_while_late);
+        }
+    }
+    assert!(late_and_single > 100 && shared > 100, "{late_and_single} late, {shared} shared");
 }
 
 /// A list that is late has a frame that made it so.

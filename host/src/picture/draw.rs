@@ -128,7 +128,7 @@ impl Page<'_> {
         svg.text(MARGIN, 56.0, "subtitle", Anchor::Start, &line);
         let (class, verdict) = match &record.late {
             Some((_, late)) => (late_class(&words::late(late)), words::late(late)),
-            None => ("subtitle", format!("{last}: {}", words::KEPT)),
+            None => ("subtitle", format!("{last}: {}", words::kept())),
         };
         svg.text(MARGIN, 74.0, class, Anchor::Start, &verdict);
     }
