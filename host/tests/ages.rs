@@ -1,8 +1,8 @@
 //! The greatest ages of a list: what they are for the examples at the limits of request A.3, and what the summary says of them.
 
-use std::fs;
-use std::path::Path;
+mod examples;
 
+use examples::example;
 use lcc::ages::Ages;
 use lcc::card::Card;
 use lcc::expand::expand;
@@ -14,11 +14,6 @@ use lcc::{play, script};
 /// The examples just beyond the limits, with the ages of their names.
 const BEYOND: [(&str, usize, usize); 3] =
     [("limits-68-65", 68, 65), ("limits-65-68", 65, 68), ("limits-67-67", 67, 67)];
-
-fn example(name: &str) -> String {
-    let folder = Path::new(env!("CARGO_MANIFEST_DIR")).join("../examples");
-    fs::read_to_string(folder.join(format!("{name}.lcc"))).expect("it is there")
-}
 
 /// The greatest ages of a script, and its summary.
 fn played(text: &str) -> (Ages, String) {

@@ -12,30 +12,16 @@ use lcc::shared::Shared;
 use lcc::told::Told;
 use lcc::watch::{Aged, Late, Moment, Watch};
 use lcc::{play, script};
-use random::Random;
 
 const SCRIPTS: u64 = 1_000;
 
-/// Random scripts, of which two thirds go on from nodes that are up, with a reply RID or an AMR due at one of them; half of them
-/// with link orders.
-fn script_of(seed: u64) -> Expanded {
-    let up = "on 0 050101010101\non 1 050101010102\nsettle 206\n";
-    let before = match seed % 3 {
-        0 => String::new(),
-        1 => format!("{up}foreign CID 7 263\ndeliver all\n"),
-        _ => format!("{up}release 1\n"),
-    };
-    let random = &mut Random::new(seed);
-    let text = match seed % 2 {
-        0 => random::script(random),
-        _ => random::script_with(&random::LINKS, random),
-    };
-    expand(&script::parse(&(before + &text)).expect("it is right"))
+fn expanded(text: &str) -> Expanded {
+    expand(&script::parse(text).expect("it is right"))
 }
 
 /// The moments of a random script, each with the frame that stood first in the inbox of the node that the command names.
 fn moments(seed: u64, mut check: impl FnMut(&Moment, Option<Frame>)) {
-    let script = script_of(seed);
+    let script = expanded(&random::list(seed));
     let mut watch = Watch::default();
     let mut first = [None; PLACES];
     play::play(&script.bytes, &script.links, &mut Card::new(), |turn, card| {
@@ -109,7 +95,7 @@ fn the_card_is_late_by_the_greatest_ages() {
     let (mut stood, mut waited) = (0, 0);
     for seed in 0..SCRIPTS {
         let (mut watch, mut last) = (Watch::default(), Ages::default());
-        let script = script_of(seed);
+        let script = expanded(&random::list(seed));
         play::play(&script.bytes, &script.links, &mut Card::new(), |turn, card| {
             last = watch.look(turn, card).longest;
             assert_eq!(last.are_kept(), !card.is_late(), "seed {seed}, {last:?}, {turn:?}");
@@ -118,20 +104,6 @@ fn the_card_is_late_by_the_greatest_ages() {
         waited += usize::from(!Ages { stood: 0, ..last }.are_kept());
     }
     assert!(stood > 100 && waited > 50, "{stood} stood, {waited} waited");
-}
-
-/// Two nodes that contest one alias, one that uses it and one that tests it, with random delays: while the CIDs stand, while the
-/// reply waits, and while the reply stands or an AMR waits.
-fn contest(seed: u64) -> Expanded {
-    let random = &mut Random::new(seed);
-    let mut delay = || 30 + random.below(60);
-    let (first, second, third) = (delay(), delay(), delay());
-    let answer = if seed % 2 == 0 { "send 0" } else { "release 0" };
-    let text = format!(
-        "on 0 050101010101\nsettle 204\nsend 0\nsend 0\non 1 050101011100\nsend 1\nsend 1\nsend 1\nsend 1\n\
-         tick {first}\ndeliver all\ntick {second}\n{answer}\ntick {third}\nsend 1\nsend all\ndeliver all\nsettle 2\n"
-    );
-    expand(&script::parse(&text).expect("it is right"))
 }
 
 /// Whether two nodes use one alias.
@@ -145,8 +117,8 @@ fn is_shared(seen: &[Seen; PLACES]) -> bool {
 fn aliases_are_single_while_the_sums_are_low() {
     let (mut late_and_single, mut shared) = (0, 0);
     for seed in 0..SCRIPTS {
-        for script in [script_of(seed), contest(seed)] {
-            let mut watch = Watch::default();
+        for script in [random::list(seed), random::contest(seed)] {
+            let (script, mut watch) = (expanded(&script), Watch::default());
             let (mut was_shared, mut single_while_late) = (false, false);
             play::play(&script.bytes, &script.links, &mut Card::new(), |turn, card| {
                 let moment = watch.look(turn, card);
@@ -171,7 +143,7 @@ fn aliases_are_single_while_the_sums_are_low() {
 fn whatever_is_late_has_a_cause() {
     for seed in 0..SCRIPTS {
         let (mut card, mut watch, mut named) = (Card::new(), Watch::default(), false);
-        let script = script_of(seed);
+        let script = expanded(&random::list(seed));
         play::play(&script.bytes, &script.links, &mut card, |turn, card| {
             named |= watch.look(turn, card).late.is_some()
         });

@@ -12,7 +12,8 @@ pub struct Fold {
 pub struct Axis {
     pub left: f64,
     pub right: f64,
-    steps: Vec<f64>,
+    /// The commands that are drawn, with their places.
+    steps: Vec<(usize, f64)>,
     /// The ticks that are drawn, with where they begin.
     pub ticks: Vec<(usize, f64)>,
     pub folds: Vec<Fold>,
@@ -56,7 +57,7 @@ impl Axis {
                 self.ticks.push((tick, x));
                 let mut x = x + unit / 2.0;
                 for step in &steps[from..to] {
-                    self.steps.push(x + step.weight * unit / 2.0);
+                    self.steps.push((step.count, x + step.weight * unit / 2.0));
                     x += step.weight * unit;
                 }
                 x + unit / 2.0
@@ -64,14 +65,14 @@ impl Axis {
         }
     }
 
-    /// Where a step stands.
-    pub fn at(&self, step: usize) -> f64 {
-        self.steps[step]
+    /// Where a command stands that is drawn.
+    pub fn at(&self, count: usize) -> f64 {
+        self.steps[self.steps.partition_point(|&(step, _)| step < count)].1
     }
 
-    /// Where a step stands, or the end of the axis.
-    pub fn at_or_end(&self, step: Option<usize>) -> f64 {
-        step.map_or(self.right, |step| self.at(step))
+    /// Where a command stands, or the end of the axis.
+    pub fn at_or_end(&self, count: Option<usize>) -> f64 {
+        count.map_or(self.right, |count| self.at(count))
     }
 }
 

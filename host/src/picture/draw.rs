@@ -1,12 +1,16 @@
-//! Puts a drawing together: title, bus, time axis, a row for each exhibit, what collided, legend. A page is A4 across.
+//! Puts a drawing together: title, bus, time axis, a row for each exhibit, what collided, what was overdue, legend. A page is A4
+//! across.
 
 use std::collections::HashSet;
 
 use super::axis::Axis;
 use super::lanes::Lanes;
-use super::legend;
+use super::legend::{self, Signs};
+use super::overdue::{self, Line};
 use super::record::{Band, Record};
-use super::style::{class_of, is_dark, DEFINITIONS, LINK};
+use super::room::Room;
+use super::shared;
+use super::style::{class_of, is_dark, styles, DEFINITIONS};
 use super::svg::{number, Anchor, Svg};
 use crate::hex::dotted_id;
 use crate::summary::totals;
@@ -23,16 +27,20 @@ const ROW: f64 = 20.0;
 const BAND: f64 = 15.0;
 /// The narrowest band that its alias is written on.
 const LABEL: f64 = 27.0;
+/// About how wide a bold letter is, and what stands below the rows where the list comes to be late.
+pub const BOLD: f64 = 7.2;
+const LATE: &str = "late from here on";
 /// Of collisions, so many are told in words.
 const TOLD: usize = 4;
 /// With more collisions than these no ways lead to them, since they would cover everything.
 const LED_TO: usize = 40;
 
 /// The places of a drawing that go by what was recorded.
-struct Page<'a> {
-    record: &'a Record,
-    axis: Axis,
+pub struct Page<'a> {
+    pub record: &'a Record,
+    pub axis: Axis,
     lanes: Lanes,
+    lines: Vec<Line>,
     rows: Vec<usize>,
     /// Where the first row begins.
     first: f64,
@@ -40,24 +48,27 @@ struct Page<'a> {
 
 /// The drawing of a run of this name.
 pub fn draw(record: &Record, name: &str, last: &str) -> String {
-    let axis = Axis::new(&record.steps, record.ticks, LEFT, RIGHT);
+    let lines = overdue::lines(record);
+    let axis = Axis::new(&overdue::steps(record, &lines), record.ticks, LEFT, RIGHT);
     let lanes = Lanes::new(record, TOP);
     let first = lanes.bottom() + 26.0;
-    let page = Page { record, axis, lanes, rows: record.rows(), first };
+    let page = Page { record, axis, lanes, lines, rows: record.rows(), first };
     let mut svg = Svg::default();
     page.title(&mut svg, name, last);
     page.time(&mut svg);
     page.exhibits(&mut svg);
     page.lanes.draw(&mut svg, record, &page.axis, &page.hits());
+    page.lines.iter().for_each(|line| line.draw(&mut svg, &page));
     page.folds(&mut svg);
     page.late(&mut svg);
-    page.aliases(&mut svg);
+    page.labels(&mut svg);
     page.collisions(&mut svg);
     page.links(&mut svg);
+    shared::draw(&mut svg, &page);
     let below = page.told(&mut svg);
-    let links = !record.links.is_empty();
-    let height = below + legend::draw(&mut svg, MARGIN, below, links);
-    whole(&svg, height, name, if links { LINK } else { "" })
+    let signs = page.drawn_besides();
+    let height = below + legend::draw(&mut svg, MARGIN, below, &signs);
+    whole(&svg, height, name, &styles(&signs))
 }
 
 /// A long sentence is set smaller, so that it stays on the page.
@@ -102,12 +113,33 @@ pub fn fold_mark(svg: &mut Svg, x: f64, top: f64, bottom: f64) {
 }
 
 impl Page<'_> {
-    fn bottom(&self) -> f64 {
+    pub fn bottom(&self) -> f64 {
         self.first + ROW * self.rows.len().max(1) as f64
     }
 
+    /// Where the words stand that say from where on the list is late.
+    pub fn late_words(&self) -> f64 {
+        self.bottom() + 12.0
+    }
+
+    /// Whether those words reach this place.
+    pub fn late_words_reach(&self, x: f64) -> bool {
+        let from = self.record.late.map(|late| self.axis.at(late.count));
+        from.is_some_and(|from| x > from && x < from + 8.0 + BOLD * LATE.len() as f64)
+    }
+
+    /// The signs that not every drawing has.
+    fn drawn_besides(&self) -> Signs {
+        Signs {
+            links: !self.record.links.is_empty(),
+            stood: self.lines.iter().any(Line::stood),
+            waited: !self.lines.iter().all(Line::stood),
+            shared: !self.record.shared.is_empty(),
+        }
+    }
+
     /// The middle of the row of a node.
-    fn middle(&self, index: usize) -> f64 {
+    pub fn middle(&self, index: usize) -> f64 {
         let row = self.rows.iter().position(|&row| row == index).unwrap_or(0);
         self.first + ROW * (row as f64 + 0.5)
     }
@@ -127,7 +159,7 @@ impl Page<'_> {
             format!("{} {collisions}, {frames} on the bus, {ticks} of 1 ms.", totals(&record.seen));
         svg.text(MARGIN, 56.0, "subtitle", Anchor::Start, &line);
         let (class, verdict) = match &record.late {
-            Some((_, late)) => (late_class(&words::late(late)), words::late(late)),
+            Some(late) => (late_class(&words::late(late)), words::late(late)),
             None => ("subtitle", format!("{last}: {}", words::kept())),
         };
         svg.text(MARGIN, 74.0, class, Anchor::Start, &verdict);
@@ -165,8 +197,8 @@ impl Page<'_> {
             svg.text(RIGHT + 8.0, y + 3.6, "on-band", Anchor::Start, &alias);
             svg.text(RIGHT + 34.0, y + 3.6, "", Anchor::Start, seen.state.name());
         }
-        for &(step, index) in &self.record.restarts {
-            let (x, y) = (self.axis.at(step), self.middle(index));
+        for &(count, index) in &self.record.restarts {
+            let (x, y) = (self.axis.at(count), self.middle(index));
             svg.circle(x, y, 5.5, "restart");
             svg.text(x, y + 3.2, "small", Anchor::Middle, "R");
         }
@@ -184,36 +216,48 @@ impl Page<'_> {
         );
     }
 
-    /// The alias on each band that has room for it, beside the folds and the signs.
-    fn aliases(&self, svg: &mut Svg) {
+    /// The alias on each band that has room for it, then how many ticks each line was; beside the folds and the signs.
+    fn labels(&self, svg: &mut Svg) {
         for &index in &self.rows {
-            let signs = self.signs(index);
+            let mut room = self.room(index);
             for band in self.record.bands[index].iter().filter(|band| band.alias != 0) {
-                self.alias(svg, self.middle(index), band, &signs);
+                self.alias(svg, self.middle(index), band, &mut room);
+            }
+            self.take_marks(index, &mut room);
+            for line in self.lines.iter().filter(|line| line.is_of(index)) {
+                line.label(svg, self, &mut room);
             }
         }
     }
 
-    /// The middles of folds and of link orders on the row of a node, from left to right.
-    fn signs(&self, index: usize) -> Vec<f64> {
+    /// The row of a node with folds, link orders, and marks of nodes that use one alias.
+    fn room(&self, index: usize) -> Room {
+        let mut room = Room::default();
         let folds = self.axis.folds.iter().map(|fold| fold.left + fold.width / 2.0);
-        let links = self.record.links.iter().filter(|(_, told)| told.index == index);
-        let mut signs: Vec<f64> = folds.chain(links.map(|(step, _)| self.axis.at(*step))).collect();
-        signs.sort_by(f64::total_cmp);
-        signs
+        let links = self.record.links.iter().filter(|told| told.index == index);
+        let shared = self.record.shared.iter().map(|shared| shared.count);
+        let counts = links.map(|told| told.count).chain(shared);
+        for middle in folds.chain(counts.map(|count| self.axis.at(count))) {
+            room.take(middle - 5.0, middle + 7.0);
+        }
+        room
     }
 
-    fn alias(&self, svg: &mut Svg, y: f64, band: &Band, signs: &[f64]) {
+    /// Collisions, restarts and the mark of a late list on the row of a node.
+    fn take_marks(&self, index: usize, room: &mut Room) {
+        let collisions = self.record.collisions.iter().filter(|(_, other)| other.index == index);
+        let restarts = self.record.restarts.iter().filter(|(_, other)| *other == index);
+        let late = self.record.late.iter().map(|late| late.count);
+        let counts = collisions.map(|(count, _)| *count).chain(restarts.map(|(count, _)| *count));
+        for middle in counts.chain(late).map(|count| self.axis.at(count)) {
+            room.take(middle - 7.0, middle + 7.0);
+        }
+    }
+
+    fn alias(&self, svg: &mut Svg, y: f64, band: &Band, room: &mut Room) {
         let (from, to) = (self.axis.at(band.from), self.axis.at_or_end(band.to));
-        let mut x = from + 7.0;
-        for &middle in signs {
-            if x < middle + 7.0 && x + LABEL > middle - 5.0 {
-                x = middle + 7.0;
-            }
-        }
-        if x + LABEL > to {
-            return;
-        }
+        let Some(x) = room.find(from + 7.0, to, LABEL) else { return };
+        room.take(x, x + LABEL);
         let alias = format!("{:03X}", band.alias);
         if is_dark(band.state) {
             svg.text(x + 2.0, y + 3.6, "on-dark", Anchor::Start, &alias);
@@ -239,16 +283,10 @@ impl Page<'_> {
 
     /// From where on the list is late.
     fn late(&self, svg: &mut Svg) {
-        if let Some((step, _)) = &self.record.late {
-            let x = self.axis.at(*step);
+        if let Some(late) = &self.record.late {
+            let x = self.axis.at(late.count);
             svg.line((x, TOP), (x, self.bottom()), "late");
-            svg.text(
-                x + 4.0,
-                self.bottom() + 10.0,
-                "late-text",
-                Anchor::Start,
-                "late from here on",
-            );
+            svg.text(x + 4.0, self.late_words(), "late-text", Anchor::Start, LATE);
         }
     }
 
@@ -258,26 +296,26 @@ impl Page<'_> {
         if few {
             self.leads(svg);
         }
-        for (step, collision) in &self.record.collisions {
+        for (count, collision) in &self.record.collisions {
             let size = if few { 4.5 } else { 2.5 };
-            svg.cross(self.axis.at(*step), self.middle(collision.index), size);
+            svg.cross(self.axis.at(*count), self.middle(collision.index), size);
         }
     }
 
     /// The letter of each link state that a node was told.
     fn links(&self, svg: &mut Svg) {
-        for (step, told) in &self.record.links {
-            let (x, y) = (self.axis.at(*step), self.middle(told.index));
+        for told in &self.record.links {
+            let (x, y) = (self.axis.at(told.count), self.middle(told.index));
             let title = format!("{}, command {}", told.words(), told.count);
             legend::link_sign(svg, x, y, told.link.state, &title);
         }
     }
 
     fn leads(&self, svg: &mut Svg) {
-        for (step, collision) in &self.record.collisions {
-            let to = (self.axis.at(*step), self.middle(collision.index));
+        for (count, collision) in &self.record.collisions {
+            let to = (self.axis.at(*count), self.middle(collision.index));
             let Some(on_bus) = self.record.frame_of(collision.arrival.count) else { continue };
-            let x = self.axis.at(on_bus.step);
+            let x = self.axis.at(on_bus.count);
             let mut way = vec![(x, self.lanes.middle(&on_bus.frame) + 4.0)];
             if let Sender::Node(index) = on_bus.from {
                 way.push((x, self.middle(index)));
@@ -294,6 +332,9 @@ impl Page<'_> {
     fn told(&self, svg: &mut Svg) -> f64 {
         let collisions = &self.record.collisions;
         let mut y = self.bottom() + 24.0;
+        if !self.record.shared.is_empty() {
+            y += shared::HEIGHT;
+        }
         for pair in collisions[..collisions.len().min(TOLD)].chunks(2) {
             for ((_, collision), x) in pair.iter().zip([MARGIN, WIDTH / 2.0]) {
                 svg.cross(x + 6.0, y - 3.5, 3.2);

@@ -51,7 +51,7 @@ impl Lanes {
         }
         let mut last = (f64::MIN, f64::MIN);
         for on_bus in &record.frames {
-            let place = (axis.at(on_bus.step), self.middle(&on_bus.frame));
+            let place = (axis.at(on_bus.count), self.middle(&on_bus.frame));
             let hit = hits.contains(&on_bus.count);
             // Marks that would cover one another are drawn once.
             if hit || place.1 != last.1 || place.0 - last.0 > 0.7 {

@@ -1,16 +1,34 @@
 //! What the signs of a drawing mean.
 
 use super::draw::fold_mark;
+use super::shared;
 use super::style::class_of;
 use super::svg::{Anchor, Svg};
+use crate::ages::KEPT;
 use crate::card::State;
 use crate::link::STATES;
 
 const HEIGHT: f64 = 50.0;
-const LINKS: f64 = 20.0;
+const ROW: f64 = 20.0;
 
-/// Two rows: the states, then the other signs; a third where link orders are drawn. Gives how high they are.
-pub fn draw(svg: &mut Svg, left: f64, top: f64, links: bool) -> f64 {
+/// Which signs are drawn besides those of every drawing.
+pub struct Signs {
+    pub links: bool,
+    /// Inbox frames that stood too long, and a reply RID or AMR that waited too long.
+    pub stood: bool,
+    pub waited: bool,
+    pub shared: bool,
+}
+
+impl Signs {
+    pub fn overdue(&self) -> bool {
+        self.stood || self.waited
+    }
+}
+
+/// Two rows: the states, then the other signs; one more where link orders are drawn, and one where something was overdue. Gives how
+/// high they are.
+pub fn draw(svg: &mut Svg, left: f64, top: f64, drawn: &Signs) -> f64 {
     let mut x = left;
     for state in &State::ALL[1..] {
         svg.rect(x, top, 26.0, 14.0, class_of(*state));
@@ -25,11 +43,35 @@ pub fn draw(svg: &mut Svg, left: f64, top: f64, links: bool) -> f64 {
         "three digits on a band: the alias in test or in use",
     );
     signs(svg, left, top + 30.0);
-    if !links {
-        return HEIGHT;
+    let mut below = 0.0;
+    if drawn.links {
+        below += ROW;
+        link_signs(svg, left, top + 30.0 + below);
     }
-    link_signs(svg, left, top + 30.0 + LINKS);
-    HEIGHT + LINKS
+    if drawn.overdue() {
+        below += ROW;
+        overdue_signs(svg, left, top + 30.0 + below, drawn);
+    }
+    HEIGHT + below
+}
+
+/// Two nodes use one alias only where something was overdue.
+fn overdue_signs(svg: &mut Svg, left: f64, y: f64, drawn: &Signs) {
+    let mut x = left;
+    let lines = [
+        (drawn.stood, "stood", "an inbox frame stood"),
+        (drawn.waited, "waited", "a reply RID or AMR waited"),
+    ];
+    for (_, class, what) in lines.iter().filter(|(is_drawn, ..)| *is_drawn) {
+        svg.rect(x, y - 1.0, 26.0, 2.0, class);
+        let text = format!("{what} for more than {KEPT} ticks");
+        svg.text(x + 32.0, y + 4.0, "", Anchor::Start, &text);
+        x += 350.0;
+    }
+    if drawn.shared {
+        shared::sign(svg, x + 6.0, y, 2, "two nodes use one alias");
+        svg.text(x + 18.0, y + 4.0, "", Anchor::Start, "two nodes use one alias from here on");
+    }
 }
 
 /// The sign of a link order, with the letter of the link state.

@@ -4,7 +4,10 @@ mod axis;
 mod draw;
 mod lanes;
 mod legend;
+mod overdue;
 mod record;
+mod room;
+mod shared;
 mod style;
 mod svg;
 

@@ -1,19 +1,23 @@
-//! What a run gives to draw: the steps at which something was to be seen, bands, frames, collisions, restarts, link orders.
+//! What a run gives to draw: the steps at which something was to be seen, bands, frames, collisions, restarts, link orders, what
+//! stood or waited too long, and aliases that two nodes came to use.
 
 use crate::card::{Seen, State, PLACES};
 use crate::command::Command;
 use crate::frame::Frame;
+use crate::shared::Shared;
 use crate::summary::Collision;
 use crate::told::Told;
-use crate::watch::{Late, Moment, Sender};
+use crate::watch::{Aged, Late, Moment, Sender};
 
-/// A command that is drawn, after how many ticks, and how much room it takes beside a frame on the bus.
+/// A command that is drawn, after how many ticks, and how much room it takes beside a frame on the bus. Its count names it.
+#[derive(Clone, Copy)]
 pub struct Step {
+    pub count: usize,
     pub tick: usize,
     pub weight: f64,
 }
 
-/// A node in one state with one alias, from one step to another or to the end.
+/// A node in one state with one alias, from one command to another or to the end.
 pub struct Band {
     pub from: usize,
     pub to: Option<usize>,
@@ -21,12 +25,17 @@ pub struct Band {
     pub alias: u16,
 }
 
-/// A frame on the bus, at which step and by which command.
+/// A frame on the bus, and by which command.
 pub struct OnBus {
-    pub step: usize,
     pub count: usize,
     pub frame: Frame,
     pub from: Sender,
+}
+
+/// What stood or waited too long, and its end: after how many ticks and by which command.
+pub struct Overdue {
+    pub frame: Aged,
+    pub end: Option<(usize, usize)>,
 }
 
 /// The room of what collided, and of a link order, beside that of a frame on the bus.
@@ -40,8 +49,11 @@ pub struct Record {
     pub collisions: Vec<(usize, Collision)>,
     /// Starts with the next alias that no delivered frame caused.
     pub restarts: Vec<(usize, usize)>,
-    pub links: Vec<(usize, Told)>,
-    pub late: Option<(usize, Late)>,
+    pub links: Vec<Told>,
+    /// Of each node, in the order in which they came.
+    pub overdue: [Vec<Overdue>; PLACES],
+    pub shared: Vec<Shared>,
+    pub late: Option<Late>,
     pub ticks: usize,
     pub seen: [Seen; PLACES],
 }
@@ -50,49 +62,64 @@ impl Record {
     pub fn note(&mut self, moment: &Moment) {
         self.ticks = moment.tick;
         self.seen = moment.after;
+        self.overdue(moment);
         let changed: Vec<usize> = (0..PLACES).filter(|&index| is_new_band(moment, index)).collect();
         let (on_the_bus, told) = (moment.on_the_bus(), Told::of(moment));
         let seen = on_the_bus.is_some() || told.is_some() || moment.late.is_some();
         if changed.is_empty() && !seen {
             return;
         }
-        let step = self.steps.len();
-        self.steps.push(Step { tick: moment.tick, weight: weight(moment) });
+        let count = moment.turn.count;
+        self.steps.push(Step { count, tick: moment.tick, weight: weight(moment) });
         for index in changed {
-            self.band(moment, index, step);
+            self.band(moment, index);
         }
         if let Some((frame, from)) = on_the_bus {
-            self.frames.push(OnBus { step, count: moment.turn.count, frame, from });
+            self.frames.push(OnBus { count, frame, from });
         }
         if let Some(collision) = Collision::of(moment) {
-            self.widen(step, collision.arrival.count);
-            self.collisions.push((step, collision));
+            self.widen(count);
+            self.widen(collision.arrival.count);
+            self.collisions.push((count, collision));
         }
-        self.links.extend(told.map(|told| (step, told)));
-        self.late = self.late.or(moment.late.map(|late| (step, late)));
+        self.shared.extend(Shared::of(moment));
+        self.links.extend(told);
+        self.late = self.late.or(moment.late);
     }
 
-    /// Gives a collision, and the frame that caused it, more room than others have.
-    fn widen(&mut self, step: usize, count: usize) {
-        let sent = self.frame_of(count).map_or(step, |on_bus| on_bus.step);
-        self.steps[sent].weight = WIDE;
-        self.steps[step].weight = WIDE;
+    /// Gives a collision, or the frame that caused it, more room than others have.
+    fn widen(&mut self, count: usize) {
+        if let Ok(step) = self.steps.binary_search_by_key(&count, |step| step.count) {
+            self.steps[step].weight = WIDE;
+        }
+    }
+
+    /// What comes to be overdue, and what was and has ended. That is among the last of its node, since an inbox is first in first out.
+    fn overdue(&mut self, moment: &Moment) {
+        for &(index, frame) in &moment.overdue {
+            self.overdue[index].push(Overdue { frame, end: None });
+        }
+        for (index, frame) in &moment.ended {
+            let found = self.overdue[*index].iter_mut().rev().find(|other| other.frame == *frame);
+            found.into_iter().for_each(|found| found.end = Some((moment.tick, moment.turn.count)));
+        }
     }
 
     /// Ends the band of a node, and begins its next.
-    fn band(&mut self, moment: &Moment, index: usize, step: usize) {
+    fn band(&mut self, moment: &Moment, index: usize) {
+        let count = moment.turn.count;
         let bands = &mut self.bands[index];
         if let Some(last) = bands.last_mut() {
-            last.to = Some(step);
+            last.to = Some(count);
         }
         let Seen { state, alias, .. } = moment.after[index];
-        bands.push(Band { from: step, to: None, state, alias });
+        bands.push(Band { from: count, to: None, state, alias });
         if moment.restarted(index) && !moment.collided(index) {
-            self.restarts.push((step, index));
+            self.restarts.push((count, index));
         }
     }
 
-    /// The step and the place in `frames` at which a command put its frame on the bus.
+    /// The frame that a command put on the bus.
     pub fn frame_of(&self, count: usize) -> Option<&OnBus> {
         let at = self.frames.partition_point(|frame| frame.count < count);
         self.frames.get(at).filter(|frame| frame.count == count)

@@ -1,5 +1,6 @@
 //! Colours and patterns. Each state has both, so that the drawing can be read in grey print too.
 
+use super::legend::Signs;
 use crate::card::State;
 
 /// The class of a state's bands.
@@ -20,9 +21,30 @@ pub fn is_dark(state: State) -> bool {
     matches!(state, State::Permitted | State::Silent)
 }
 
-/// What stands before the shapes besides, where link orders are drawn.
-pub const LINK: &str = r##"<style>
+/// What stands before the shapes besides, for signs that not every drawing has.
+pub fn styles(drawn: &Signs) -> String {
+    let parts = [(drawn.links, LINK), (drawn.overdue(), OVERDUE), (drawn.shared, SHARED)];
+    parts.iter().filter(|(is_drawn, _)| *is_drawn).map(|(_, style)| *style).collect()
+}
+
+const LINK: &str = r##"<style>
 .link { fill: #fff; stroke: #111; stroke-width: 1.2; }
+</style>
+"##;
+
+/// The two are told apart in grey print by their place: on the band, and below it.
+const OVERDUE: &str = r##"<style>
+.stood { fill: #1030e0; stroke: #fff; stroke-width: 0.6; }
+.stood-text { font-size: 6.5px; fill: #1030e0; }
+.waited { fill: #a000b8; stroke: #fff; stroke-width: 0.6; }
+.waited-text { font-size: 6.5px; fill: #a000b8; }
+</style>
+"##;
+
+const SHARED: &str = r##"<style>
+.shared { fill: #c00020; stroke: #fff; stroke-width: 0.8; }
+.shared-text { font-size: 9px; font-weight: bold; fill: #fff; }
+.shared-way { stroke: #c00020; stroke-width: 1.2; }
 </style>
 "##;
 

@@ -1,4 +1,4 @@
-//! Random scripts by name, drawn from a seed, with link orders or without. Not every test has a use for both.
+//! Random scripts by name, drawn from a seed, with link orders or without. Not every test has a use for all of it.
 #![allow(dead_code)]
 
 /// A generator of random numbers; the same seed gives the same ones.
@@ -56,6 +56,36 @@ pub fn script_with(links: &[&str], random: &mut Random) -> String {
                 line(random)
             }
         },
+    )
+}
+
+/// A script that in two of three cases goes on from nodes that are up, with a reply RID or an AMR due at one of them; half of them
+/// with link orders.
+pub fn list(seed: u64) -> String {
+    let up = "on 0 050101010101\non 1 050101010102\nsettle 206\n";
+    let before = match seed % 3 {
+        0 => String::new(),
+        1 => format!("{up}foreign CID 7 263\ndeliver all\n"),
+        _ => format!("{up}release 1\n"),
+    };
+    let random = &mut Random::new(seed);
+    before
+        + &match seed % 2 {
+            0 => script(random),
+            _ => script_with(&LINKS, random),
+        }
+}
+
+/// Two nodes that contest one alias, one that uses it and one that tests it, with random delays: while the CIDs stand, while the
+/// reply waits, and while the reply stands or an AMR waits.
+pub fn contest(seed: u64) -> String {
+    let random = &mut Random::new(seed);
+    let mut delay = || 30 + random.below(60);
+    let (first, second, third) = (delay(), delay(), delay());
+    let answer = if seed.is_multiple_of(2) { "send 0" } else { "release 0" };
+    format!(
+        "on 0 050101010101\nsettle 204\nsend 0\nsend 0\non 1 050101011100\nsend 1\nsend 1\nsend 1\nsend 1\n\
+         tick {first}\ndeliver all\ntick {second}\n{answer}\ntick {third}\nsend 1\nsend all\ndeliver all\nsettle 2\n"
     )
 }
 
