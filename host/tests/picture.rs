@@ -1,4 +1,4 @@
-//! What a drawing shows of ages: lines of what stood or waited too long, marks where two nodes come to use one alias; and their places.
+//! What a drawing shows of ages: lines of what stood or waited too long, and marks where two nodes come to use one alias.
 
 mod examples;
 mod random;
@@ -51,25 +51,70 @@ const BEYOND: [(&str, [Drawn; 3]); 3] = [
     (
         "limits-68-65",
         [
-            ("stood", "68 ticks", "4 frames stood in the inbox of node 0 for 68 ticks, from tick 201 (command 210) to tick 269 (command 285)"),
-            ("waited", "65 ticks", "RID, alias 263, waited at node 0 for 65 ticks, from tick 269 (command 282) to tick 334 (command 351)"),
-            ("stood", "68 ticks", "RID, alias 263, from node 0, stood in the inbox of node 1 for 68 ticks, from tick 334 (command 351) to the end"),
+            (
+                "stood",
+                "68 ticks",
+                "4 frames stood in the inbox of node 0 for 68 ticks, \
+                 from tick 201 (command 210) to tick 269 (command 285)",
+            ),
+            (
+                "waited",
+                "65 ticks",
+                "RID, alias 263, waited at node 0 for 65 ticks, \
+                 from tick 269 (command 282) to tick 334 (command 351)",
+            ),
+            (
+                "stood",
+                "68 ticks",
+                "RID, alias 263, from node 0, stood in the inbox of node 1 for 68 ticks, \
+                 from tick 334 (command 351) to the end",
+            ),
         ],
     ),
     (
         "limits-65-68",
         [
-            ("stood", "65 ticks", "4 frames stood in the inbox of node 0 for 65 ticks, from tick 201 (command 210) to tick 266 (command 282)"),
-            ("waited", "68 ticks", "RID, alias 263, waited at node 0 for 68 ticks, from tick 266 (command 279) to tick 334 (command 351)"),
-            ("waited", "68 ticks", "AMR, alias 263, Node ID 05.01.01.01.01.01, waited at node 0 for 68 ticks, from tick 334 (command 351) to the end"),
+            (
+                "stood",
+                "65 ticks",
+                "4 frames stood in the inbox of node 0 for 65 ticks, \
+                 from tick 201 (command 210) to tick 266 (command 282)",
+            ),
+            (
+                "waited",
+                "68 ticks",
+                "RID, alias 263, waited at node 0 for 68 ticks, \
+                 from tick 266 (command 279) to tick 334 (command 351)",
+            ),
+            (
+                "waited",
+                "68 ticks",
+                "AMR, alias 263, Node ID 05.01.01.01.01.01, waited at node 0 for 68 ticks, \
+                 from tick 334 (command 351) to the end",
+            ),
         ],
     ),
     (
         "limits-67-67",
         [
-            ("stood", "67 ticks", "4 frames stood in the inbox of node 0 for 67 ticks, from tick 201 (command 210) to tick 268 (command 284)"),
-            ("waited", "67 ticks", "RID, alias 263, waited at node 0 for 67 ticks, from tick 268 (command 281) to tick 335 (command 352)"),
-            ("stood", "67 ticks", "RID, alias 263, from node 0, stood in the inbox of node 1 for 67 ticks, from tick 335 (command 352) to the end"),
+            (
+                "stood",
+                "67 ticks",
+                "4 frames stood in the inbox of node 0 for 67 ticks, \
+                 from tick 201 (command 210) to tick 268 (command 284)",
+            ),
+            (
+                "waited",
+                "67 ticks",
+                "RID, alias 263, waited at node 0 for 67 ticks, \
+                 from tick 268 (command 281) to tick 335 (command 352)",
+            ),
+            (
+                "stood",
+                "67 ticks",
+                "RID, alias 263, from node 0, stood in the inbox of node 1 for 67 ticks, \
+                 from tick 335 (command 352) to the end",
+            ),
         ],
     ),
 ];
@@ -163,13 +208,16 @@ fn frames_that_stood_together_are_one_line() {
     let cases: [(&str, &[&str]); 3] = [
         (
             "foreign RID 1\ntick 5\nforeign RID 2\ntick 50\ndeliver all\n",
-            &["2 frames stood in the inbox of node 0 for 50 to 55 ticks, from tick 0 (command 2) to tick 55 (command 60)"],
+            &["2 frames stood in the inbox of node 0 for 50 to 55 ticks, \
+                 from tick 0 (command 2) to tick 55 (command 60)"],
         ),
         (
             "foreign RID 1\ntick 41\ndeliver 0\nforeign RID 2\ntick 42\n",
             &[
-                "RID, alias 001, from foreign equipment, stood in the inbox of node 0 for 41 ticks, from tick 0 (command 2) to tick 41 (command 44)",
-                "RID, alias 002, from foreign equipment, stood in the inbox of node 0 for 42 ticks, from tick 41 (command 45) to the end",
+                "RID, alias 001, from foreign equipment, stood in the inbox of node 0 for 41 ticks, \
+                 from tick 0 (command 2) to tick 41 (command 44)",
+                "RID, alias 002, from foreign equipment, stood in the inbox of node 0 for 42 ticks, \
+                 from tick 41 (command 45) to the end",
             ],
         ),
         ("foreign RID 1\ntick 40\ndeliver 0\nforeign RID 2\ntick 40\n", &[]),
@@ -246,29 +294,28 @@ fn rects(picture: &str, classes: &[&str]) -> Vec<Place> {
 }
 
 /// No two of some places meet, nor any of them one of the others.
-fn are_apart(places: &[Place], others: &[Place], seed: u64) {
+fn are_apart(places: &[Place], others: &[Place], list: &str) {
     for (at, place) in places.iter().enumerate() {
         for other in places[..at].iter().chain(others) {
-            assert!(!place.meets(other), "seed {seed}: {place:?} {other:?}");
+            assert!(!place.meets(other), "{place:?} {other:?}:\n{list}");
         }
     }
 }
 
-/// The text of a line covers no sign and no other text; a line covers no other, and crosses none but folds; nothing leaves the page.
+/// The text of a line covers no sign and no other text; a line covers no other, and of signs only folds; nothing leaves the page.
 #[test]
 fn places_are_apart_and_on_the_page() {
     let (mut lines, mut written, mut marks) = (0, 0, 0);
-    for seed in 0..300 {
-        for list in [random::list(seed), random::contest(seed)] {
-            let picture = drawn(&list);
-            let (labels, signs) = (labels(&picture), signs(&picture));
-            are_apart(&labels, &signs, seed);
-            let drawn = rects(&picture, &["stood", "waited"]);
-            are_apart(&drawn, &rects(&picture, &["plate", "shared", "link"]), seed);
-            on_the_page(&picture, drawn.iter().chain(&labels).chain(&signs));
-            (lines, written) = (lines + drawn.len(), written + labels.len());
-            marks += of_class(&picture, "shared-way").len();
-        }
+    let random = (0..300).flat_map(|seed| [random::list(seed), random::contest(seed)]);
+    for list in names().iter().map(|name| example(name)).chain(random) {
+        let picture = drawn(&list);
+        let (labels, signs) = (labels(&picture), signs(&picture));
+        are_apart(&labels, &signs, &list);
+        let drawn = rects(&picture, &["stood", "waited"]);
+        are_apart(&drawn, &rects(&picture, &["plate", "shared", "link"]), &list);
+        on_the_page(&picture, drawn.iter().chain(&labels).chain(&signs));
+        (lines, written) = (lines + drawn.len(), written + labels.len());
+        marks += of_class(&picture, "shared-way").len();
     }
     assert!(
         lines > 500 && written > 500 && marks > 50,

@@ -10,7 +10,7 @@ use crate::words;
 
 /// How thick a line is, and about how wide a letter of its text.
 const THICK: f64 = 2.0;
-const LETTER: f64 = 4.0;
+const LETTER: f64 = 3.6;
 
 /// The classes of a line and of its text; how far below the middle of the row the line and the white under the text begin; how high
 /// that is.
@@ -142,7 +142,7 @@ impl Line {
         let text = format!("{up_to}{greatest} ticks");
         let width = LETTER * text.len() as f64;
         let (from, to) = self.reach(page);
-        let Some(x) = room.find(from + 2.0, to - 2.0, width) else { return };
+        let Some(x) = room.find(from + 8.0, to - 4.0, width) else { return };
         room.take(x, x + width);
         let look = self.look();
         let y = page.middle(self.index) + look.white;

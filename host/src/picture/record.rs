@@ -94,7 +94,7 @@ impl Record {
         }
     }
 
-    /// What comes to be overdue, and what was and has ended. That is among the last of its node, since an inbox is first in first out.
+    /// What comes to be overdue, and what was and has ended. That is among the last of its node: an inbox is first in first out.
     fn overdue(&mut self, moment: &Moment) {
         for &(index, frame) in &moment.overdue {
             self.overdue[index].push(Overdue { frame, end: None });
