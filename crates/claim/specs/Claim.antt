@@ -60,19 +60,20 @@ pub data Carried : List Command → List A.Answer → List ℕ → Type 0 where
   then : {cs : List Command} {xs : List A.Answer} {t : List ℕ} {c : Command} {a : A.Answer} {t′ : List ℕ}
       → Carried cs xs t → Does c t a t′ → Carried (cs ++ c ∷ []) (xs ++ a ∷ []) t′
 
--- A.3: i is the most ticks an inbox frame may stand, o the most that a reply RID or AMR may wait; allowed is every i and o with
--- 2 × i + o at most 200 and i + 2 × o at most 200.
+-- A.3: let i be the most ticks an inbox frame may stand and o the most that a reply RID or AMR may wait. Allowed is every i and o
+-- with 2 × i + o at most 200 and i + 2 × o at most 200.
 abbrev pub most : ℕ
 most = 200
 
 abbrev pub Allowed : (i o : ℕ) → Type 0
 Allowed i o = (2 * i + o ≤ most) × (i + 2 * o ≤ most)
 
--- Single aliases, in the words of a table: no two nodes use one alias, and no two have due frames with identical headers and
--- different data.
+-- Aliases are single, in the words of a table.
 pub record Single (t : List ℕ) : Type 0 where
+  -- no two nodes use one alias
   pub one-user : (p q : ℕ) → p < places → q < places → p ≢ q
       → uses (nodeAt t p .phase) ≡ true → uses (nodeAt t q .phase) ≡ true → nodeAt t p .alias .0 ≢ nodeAt t q .alias .0
+  -- and no two have due frames with identical headers and different data
   pub one-meaning : (p q : ℕ) → p < places → q < places → p ≢ q → (f g : Frame)
       → dueOf wait (nodeAt t p) ≡ next f → dueOf wait (nodeAt t q) ≡ next g → f .header ≡ g .header → (f .len ≡ g .len) × (f .bytes ≡ g .bytes)
 
@@ -86,7 +87,8 @@ pub record Claim (cs : List Command) (xs : List A.Answer) (t : List ℕ) : Type 
   pub inboxes : (k : ℕ) → k < places → map frameOf (inbox t k) ≡ run start cs .at k .inbox
   -- late exactly when some age in the list exceeded the limit
   pub late : lateOf t ≡ not (isKept limit limit cs)
-  -- A.3: for every i and o so allowed, where in the list no inbox frame's age exceeds i and no reply RID's or AMR's exceeds o
+  -- A.3: aliases stay single for every such i and o, where in the list no inbox frame's age exceeds i and no reply RID's or AMR's
+  -- exceeds o
   pub single : (i o : ℕ) → Allowed i o → isKept i o cs ≡ true → Single t
 
 -- LISTS WITH ONE MORE COMMAND
