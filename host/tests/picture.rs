@@ -1,6 +1,7 @@
 //! What a drawing shows of ages: lines of what stood or waited too long, and marks where two nodes come to use one alias.
 
 mod examples;
+mod places;
 mod random;
 
 use examples::{example, names};
@@ -9,6 +10,7 @@ use lcc::expand::expand;
 use lcc::picture::{draw, Record};
 use lcc::watch::Watch;
 use lcc::{play, script};
+use places::{number, Place};
 
 fn drawn(text: &str) -> String {
     let script = expand(&script::parse(text).expect("it is right"));
@@ -37,10 +39,12 @@ fn texts<'a>(picture: &'a str, class: &str) -> Vec<&'a str> {
     of_class(picture, class).into_iter().filter_map(text).collect()
 }
 
-/// An attribute of a shape that is a number.
-fn number(shape: &str, name: &str) -> f64 {
-    let (_, rest) = shape.split_once(&format!(" {name}=\"")).expect("it has that attribute");
-    rest.split_once('"').expect("it ends").0.parse().expect("a number")
+/// What the lines of a class say, without the one in the legend.
+fn said<'a>(picture: &'a str, class: &str) -> Vec<&'a str> {
+    let mut said = titles(picture, class);
+    let legend = said.pop();
+    assert!(legend.is_none_or(|words| words.ends_with(" for more than 40 ticks")), "{legend:?}");
+    said
 }
 
 /// A line of a drawing: its class, the text on it and its title.
@@ -127,10 +131,8 @@ fn what_stood_and_waited_too_long_is_drawn() {
         for class in ["stood", "waited"] {
             let lines = lines.iter().filter(|line| line.0 == class);
             let (written, titled): (Vec<_>, Vec<_>) = lines.map(|line| (line.1, line.2)).unzip();
-            assert_eq!(titles(&picture, class), titled, "{name}");
+            assert_eq!(said(&picture, class), titled, "{name}");
             assert_eq!(texts(&picture, &format!("{class}-text")), written, "{name}");
-            let in_the_legend = of_class(&picture, class).len() - titled.len();
-            assert_eq!(in_the_legend, 1, "{name}: {class}");
         }
     }
 }
@@ -172,7 +174,7 @@ fn a_late_list_has_no_more_signs_than_it_needs() {
     let late = drawn(&example("late"));
     let words = "eleven-bit frame 123, data 07.07, from foreign equipment, stood in the inbox of node 0 for 41 ticks, \
                  from tick 0 (command 2) to tick 41 (command 44)";
-    assert_eq!(titles(&late, "stood"), [words]);
+    assert_eq!(said(&late, "stood"), [words]);
     assert_eq!(texts(&late, "stood-text"), ["41 ticks"]);
     assert_eq!(of_class(&late, "waited").len() + of_class(&late, "shared").len(), 0);
     assert!(!late.contains("two nodes use") && !late.contains("a reply RID or AMR waited"));
@@ -223,74 +225,35 @@ fn frames_that_stood_together_are_one_line() {
         ("foreign RID 1\ntick 40\ndeliver 0\nforeign RID 2\ntick 40\n", &[]),
     ];
     for (list, titled) in cases {
-        assert_eq!(titles(&drawn(&format!("{on}{list}")), "stood"), titled, "{list}");
+        assert_eq!(said(&drawn(&format!("{on}{list}")), "stood"), titled, "{list}");
     }
     let dropped = drawn("on 0 050101010101\nforeign RID 1\ntick 60\non 0 050101010101\ntick 60\n");
-    assert!(titles(&dropped, "stood")[0]
+    assert!(said(&dropped, "stood")[0]
         .ends_with("for 60 ticks, from tick 0 (command 2) to tick 60 (command 63)"));
 }
 
-/// From where to where a shape or a text goes, across and down.
-#[derive(Clone, Copy, Debug)]
-struct Place {
-    left: f64,
-    right: f64,
-    top: f64,
-    bottom: f64,
+/// The text of a line of a drawing: its class, its place with the white under it, and which line of the drawing's text it is.
+struct Label<'a> {
+    class: &'a str,
+    place: Place,
+    at: usize,
 }
 
-impl Place {
-    fn of_rect(rect: &str) -> Place {
-        let (left, top) = (number(rect, "x"), number(rect, "y"));
-        let (right, bottom) = (left + number(rect, "width"), top + number(rect, "height"));
-        Place { left, right, top, bottom }
-    }
-
-    /// Numbers are written with one digit, so that some tenths do not count.
-    fn meets(&self, other: &Place) -> bool {
-        let meet = |a: f64, b: f64, c: f64, d: f64| a + 0.25 < d && c + 0.25 < b;
-        meet(self.left, self.right, other.left, other.right)
-            && meet(self.top, self.bottom, other.top, other.bottom)
-    }
-}
-
-/// The white under the text of each line.
-fn labels(picture: &str) -> Vec<Place> {
+fn labels(picture: &str) -> Vec<Label<'_>> {
     let lines: Vec<&str> = picture.lines().collect();
-    let is_label = |text: &str| text.contains("\"stood-text\"") || text.contains("\"waited-text\"");
-    lines.windows(2).filter(|pair| is_label(pair[1])).map(|pair| Place::of_rect(pair[0])).collect()
+    let label = |at: usize| {
+        let class = ["stood", "waited"]
+            .into_iter()
+            .find(|class| lines[at].contains(&format!("class=\"{class}-text\"")))?;
+        Some(Label { class, place: Place::of_rect(lines[at - 1]), at })
+    };
+    (1..lines.len()).filter_map(label).collect()
 }
 
-/// The signs on the rows: aliases, link orders, nodes that use one alias, folds.
-fn signs(picture: &str) -> Vec<Place> {
-    let written = of_class(picture, "on-dark").into_iter().map(|text| {
-        let (x, y) = (number(text, "x"), number(text, "y"));
-        Place { left: x, right: x + 18.0, top: y - 8.0, bottom: y }
-    });
-    let folds = of_class(picture, "fold").into_iter().map(|fold| {
-        let (_, points) = fold.split_once("points=\"").expect("a fold has points");
-        let points = points.split_once('"').expect("they end").0.split(' ');
-        let points = points.map(|point| point.split_once(',').expect("across and down"));
-        let points =
-            points.map(|(x, y)| [x, y].map(|number| number.parse::<f64>().expect("a number")));
-        let bound = |at: usize, pick: fn(f64, f64) -> f64| {
-            points.clone().map(|point| point[at]).reduce(pick).expect("a point")
-        };
-        Place {
-            left: bound(0, f64::min),
-            right: bound(0, f64::max),
-            top: bound(1, f64::min),
-            bottom: bound(1, f64::max),
-        }
-    });
-    let mut signs = rects(picture, &["plate", "shared", "link"]);
-    signs.extend(written.chain(folds));
-    signs
-}
-
-fn rects(picture: &str, classes: &[&str]) -> Vec<Place> {
+/// The places of all shapes and texts of some classes.
+fn places(picture: &str, classes: &[&str]) -> Vec<Place> {
     let all = classes.iter().flat_map(|class| of_class(picture, class));
-    all.filter(|line| line.starts_with("<rect")).map(Place::of_rect).collect()
+    all.flat_map(Place::all_of).collect()
 }
 
 /// No two of some places meet, nor any of them one of the others.
@@ -302,39 +265,114 @@ fn are_apart(places: &[Place], others: &[Place], list: &str) {
     }
 }
 
-/// The text of a line covers no sign and no other text; a line covers no other, and of signs only folds; nothing leaves the page.
-#[test]
-fn places_are_apart_and_on_the_page() {
-    let (mut lines, mut written, mut marks) = (0, 0, 0);
+const LINES: [&str; 2] = ["stood", "waited"];
+const BANDS: [&str; 6] = ["testing", "reserved", "permitted", "leaving", "resting", "silent"];
+const SIGNS: [&str; 7] = ["plate", "on-dark", "shared", "link", "restart", "ring", "cross"];
+/// What goes through the rows from top to bottom.
+const CROSSING: [&str; 4] = ["fold", "late", "lead", "shared-way"];
+
+/// The examples, and lists in which much is late.
+fn lists() -> impl Iterator<Item = String> {
     let random = (0..300).flat_map(|seed| [random::list(seed), random::contest(seed)]);
-    for list in names().iter().map(|name| example(name)).chain(random) {
-        let picture = drawn(&list);
-        let (labels, signs) = (labels(&picture), signs(&picture));
-        are_apart(&labels, &signs, &list);
-        let drawn = rects(&picture, &["stood", "waited"]);
-        are_apart(&drawn, &rects(&picture, &["plate", "shared", "link"]), &list);
-        on_the_page(&picture, drawn.iter().chain(&labels).chain(&signs));
-        (lines, written) = (lines + drawn.len(), written + labels.len());
-        marks += of_class(&picture, "shared-way").len();
-    }
-    assert!(
-        lines > 500 && written > 500 && marks > 50,
-        "{lines} lines, {written} texts, {marks} marks"
-    );
+    names().into_iter().map(|name| example(&name)).chain(random)
 }
 
-fn on_the_page<'a>(picture: &str, places: impl Iterator<Item = &'a Place>) {
-    let page = picture.lines().next().expect("a drawing");
-    let (width, height) = (number(page, "width"), number(page, "height"));
-    for place in places {
-        assert!(place.left >= 0.0 && place.right <= width && place.bottom <= height, "{place:?}");
-        assert!(place.left <= place.right, "{place:?}");
+/// Lines and their texts cover no band, no sign, and no other of them; a text stands in its line, and nothing lies upon it.
+#[test]
+fn lines_and_their_texts_are_apart_from_all_else() {
+    let (mut lines, mut written) = (0, 0);
+    for list in lists() {
+        let picture = drawn(&list);
+        let others = [places(&picture, &BANDS), places(&picture, &SIGNS)].concat();
+        are_apart(&places(&picture, &LINES), &others, &list);
+        let labels = labels(&picture);
+        are_apart(&labels.iter().map(|label| label.place).collect::<Vec<_>>(), &others, &list);
+        for label in &labels {
+            is_in_its_line(label, &picture, &list);
+            let later = picture.lines().skip(label.at + 1).flat_map(Place::all_of);
+            later.for_each(|other| assert!(!label.place.meets(&other), "{other:?}:\n{list}"));
+        }
+        (lines, written) = (lines + places(&picture, &LINES).len(), written + labels.len());
     }
-    for words in of_class(picture, "late-text") {
-        // A bold letter of this size is about so wide.
-        let wide = 7.2 * texts(words, "late-text")[0].len() as f64;
-        let x = number(words, "x");
-        let (left, right) = if words.contains("\"end\"") { (x - wide, x) } else { (x, x + wide) };
-        assert!(left >= 0.0 && right <= width && number(words, "y") < height, "{words}");
+    assert!(lines > 500 && written > 500, "{lines} lines, {written} texts");
+}
+
+/// A text meets one line, of its own sort, which goes on to either side of it.
+fn is_in_its_line(label: &Label, picture: &str, list: &str) {
+    let met = |class: &str| {
+        let lines = places(picture, &[class]).into_iter();
+        lines.filter(|line| line.meets(&label.place)).collect::<Vec<_>>()
+    };
+    let all: usize = LINES.iter().map(|class| met(class).len()).sum();
+    let [own] = met(label.class)[..] else { panic!("{:?} is in no line:\n{list}", label.place) };
+    assert!(all == 1 && own.left < label.place.left && own.right > label.place.right, "{list}");
+}
+
+/// Where lines are as long as in the examples, nothing goes through their texts.
+#[test]
+fn texts_of_the_examples_are_beside_what_crosses_the_rows() {
+    let mut written = 0;
+    for picture in names().iter().map(|name| drawn(&example(name))) {
+        for label in labels(&picture) {
+            are_apart(&[label.place], &places(&picture, &CROSSING), &picture);
+            written += 1;
+        }
+    }
+    assert!(written >= 10, "{written} texts");
+}
+
+/// The letters of a class, in pixels.
+fn letters(picture: &str, class: &str) -> f64 {
+    let (_, style) = picture.split_once(&format!("\n.{class} {{ font-size: ")).expect("a style");
+    style.split_once("px").expect("in pixels").0.parse().expect("a number")
+}
+
+/// Texts of lines have letters as high as other small ones, and the white under them is as high.
+#[test]
+fn texts_of_lines_can_be_read() {
+    for (name, _) in BEYOND {
+        let picture = drawn(&example(name));
+        let small = letters(&picture, "small");
+        for class in LINES {
+            assert!(letters(&picture, &format!("{class}-text")) >= small, "{name}: {class}");
+        }
+        for Label { place, .. } in labels(&picture) {
+            assert!(place.bottom - place.top >= small, "{name}: {place:?}");
+        }
+    }
+}
+
+/// The words below the rows cover one another nowhere, nor a line, its text, or a way to them.
+#[test]
+fn words_below_the_rows_are_apart() {
+    let mut marks = 0;
+    for list in lists() {
+        let picture = drawn(&list);
+        let words = places(&picture, &["late-text"]);
+        let ways = places(&picture, &["shared-way"]);
+        are_apart(&words, &places(&picture, &LINES), &list);
+        are_apart(
+            &words,
+            &labels(&picture).iter().map(|label| label.place).collect::<Vec<_>>(),
+            &list,
+        );
+        are_apart(&words, &ways, &list);
+        marks += ways.len();
+    }
+    assert!(marks > 50, "{marks} marks");
+}
+
+#[test]
+fn nothing_leaves_the_page() {
+    for list in lists() {
+        let picture = drawn(&list);
+        let page = picture.lines().next().expect("a drawing");
+        let (width, height) = (number(page, "width"), number(page, "height"));
+        for line in picture.lines() {
+            for Place { left, right, top, bottom } in Place::all_of(line) {
+                let is_inside = left >= 0.0 && right <= width && top >= 0.0 && bottom <= height;
+                assert!(is_inside && left <= right, "{line}:\n{list}");
+            }
+        }
     }
 }

@@ -6,15 +6,16 @@ use std::collections::HashSet;
 use super::axis::Axis;
 use super::lanes::Lanes;
 use super::legend::{self, Signs};
-use super::overdue::{self, Line};
+use super::overdue::{self, Line, LineSort};
 use super::record::{Band, Record};
 use super::room::Room;
+use super::rows::Rows;
 use super::shared;
 use super::style::{class_of, is_dark, styles, DEFINITIONS};
 use super::svg::{number, Anchor, Svg};
 use crate::hex::dotted_id;
-use crate::summary::totals;
-use crate::watch::Sender;
+use crate::summary::{totals, Collision};
+use crate::watch::{Late, Sender};
 use crate::words;
 
 const WIDTH: f64 = 1123.0;
@@ -23,13 +24,15 @@ const MARGIN: f64 = 24.0;
 const LEFT: f64 = 168.0;
 const RIGHT: f64 = 994.0;
 const TOP: f64 = 110.0;
-const ROW: f64 = 20.0;
 const BAND: f64 = 15.0;
 /// The narrowest band that its alias is written on.
 const LABEL: f64 = 27.0;
 /// About how wide a bold letter is, and what stands below the rows where the list comes to be late.
 pub const BOLD: f64 = 7.2;
 const LATE: &str = "late from here on";
+/// With more letters than these a sentence is long; with more than these, set smaller, it is wider than the page.
+const LONG: usize = 140;
+const LONGEST: usize = 185;
 /// Of collisions, so many are told in words.
 const TOLD: usize = 4;
 /// With more collisions than these no ways lead to them, since they would cover everything.
@@ -41,9 +44,7 @@ pub struct Page<'a> {
     pub axis: Axis,
     lanes: Lanes,
     lines: Vec<Line>,
-    rows: Vec<usize>,
-    /// Where the first row begins.
-    first: f64,
+    pub rows: Rows,
 }
 
 /// The drawing of a run of this name.
@@ -51,8 +52,8 @@ pub fn draw(record: &Record, name: &str, last: &str) -> String {
     let lines = overdue::lines(record);
     let axis = Axis::new(&overdue::steps(record, &lines), record.ticks, LEFT, RIGHT);
     let lanes = Lanes::new(record, TOP);
-    let first = lanes.bottom() + 26.0;
-    let page = Page { record, axis, lanes, lines, rows: record.rows(), first };
+    let rows = Rows::new(record, &lines, lanes.bottom() + 26.0);
+    let page = Page { record, axis, lanes, lines, rows };
     let mut svg = Svg::default();
     page.title(&mut svg, name, last);
     page.time(&mut svg);
@@ -61,10 +62,11 @@ pub fn draw(record: &Record, name: &str, last: &str) -> String {
     page.lines.iter().for_each(|line| line.draw(&mut svg, &page));
     page.folds(&mut svg);
     page.late(&mut svg);
-    page.labels(&mut svg);
+    page.aliases(&mut svg);
     page.collisions(&mut svg);
     page.links(&mut svg);
     shared::draw(&mut svg, &page);
+    page.lines.iter().for_each(|line| line.label(&mut svg, &page));
     let below = page.told(&mut svg);
     let signs = page.drawn_besides();
     let height = below + legend::draw(&mut svg, MARGIN, below, &signs);
@@ -73,10 +75,21 @@ pub fn draw(record: &Record, name: &str, last: &str) -> String {
 
 /// A long sentence is set smaller, so that it stays on the page.
 fn late_class(sentence: &str) -> &'static str {
-    if sentence.len() > 140 {
+    if sentence.len() > LONG {
         "late-text long"
     } else {
         "late-text"
+    }
+}
+
+/// A sentence that is too long even then goes on in a second line.
+fn on_two_lines(sentence: &str) -> (&str, Option<&str>) {
+    let fits = sentence.match_indices(' ').map(|(blank, _)| blank).take_while(|at| *at <= LONGEST);
+    match fits.last() {
+        Some(blank) if sentence.len() > LONGEST => {
+            (&sentence[..blank], Some(&sentence[blank + 1..]))
+        }
+        _ => (sentence, None),
     }
 }
 
@@ -113,13 +126,9 @@ pub fn fold_mark(svg: &mut Svg, x: f64, top: f64, bottom: f64) {
 }
 
 impl Page<'_> {
-    pub fn bottom(&self) -> f64 {
-        self.first + ROW * self.rows.len().max(1) as f64
-    }
-
     /// Where the words stand that say from where on the list is late.
     pub fn late_words(&self) -> f64 {
-        self.bottom() + 12.0
+        self.rows.bottom() + 12.0
     }
 
     /// Whether those words reach this place.
@@ -132,16 +141,9 @@ impl Page<'_> {
     fn drawn_besides(&self) -> Signs {
         Signs {
             links: !self.record.links.is_empty(),
-            stood: self.lines.iter().any(Line::stood),
-            waited: !self.lines.iter().all(Line::stood),
+            lines: LineSort::all_of(self.lines.iter()),
             shared: !self.record.shared.is_empty(),
         }
-    }
-
-    /// The middle of the row of a node.
-    pub fn middle(&self, index: usize) -> f64 {
-        let row = self.rows.iter().position(|&row| row == index).unwrap_or(0);
-        self.first + ROW * (row as f64 + 0.5)
     }
 
     /// The commands whose frames collided with a node's alias.
@@ -162,7 +164,9 @@ impl Page<'_> {
             Some(late) => (late_class(&words::late(late)), words::late(late)),
             None => ("subtitle", format!("{last}: {}", words::kept())),
         };
-        svg.text(MARGIN, 74.0, class, Anchor::Start, &verdict);
+        let (line, more) = on_two_lines(&verdict);
+        svg.text(MARGIN, 74.0, class, Anchor::Start, line);
+        more.into_iter().for_each(|more| svg.text(MARGIN, 85.0, class, Anchor::Start, more));
     }
 
     /// The ticks, with a number where there is room for it.
@@ -171,7 +175,7 @@ impl Page<'_> {
         svg.text(LEFT - 8.0, y, "small", Anchor::End, "tick");
         let mut free = f64::MIN;
         for &(tick, x) in &self.axis.ticks {
-            svg.line((x, TOP), (x, self.bottom()), "tick");
+            svg.line((x, TOP), (x, self.rows.bottom()), "tick");
             let wide = 6.0 * tick.to_string().len() as f64 + 6.0;
             if x >= free {
                 svg.text(x + 2.0, y, "small", Anchor::Start, &tick.to_string());
@@ -181,11 +185,11 @@ impl Page<'_> {
     }
 
     fn exhibits(&self, svg: &mut Svg) {
-        if self.rows.is_empty() {
-            svg.text(LEFT, self.first + 14.0, "", Anchor::Start, "No node was powered on.");
+        if self.rows.nodes().next().is_none() {
+            svg.text(LEFT, self.rows.top + 14.0, "", Anchor::Start, "No node was powered on.");
         }
-        for &index in &self.rows {
-            let y = self.middle(index);
+        for index in self.rows.nodes() {
+            let y = self.rows.middle(index);
             let seen = &self.record.seen[index];
             svg.text(MARGIN + 16.0, y + 3.8, "strong", Anchor::End, &index.to_string());
             svg.text(LEFT - 8.0, y + 3.4, "mono", Anchor::End, &dotted_id(seen.id));
@@ -198,7 +202,7 @@ impl Page<'_> {
             svg.text(RIGHT + 34.0, y + 3.6, "", Anchor::Start, seen.state.name());
         }
         for &(count, index) in &self.record.restarts {
-            let (x, y) = (self.axis.at(count), self.middle(index));
+            let (x, y) = (self.axis.at(count), self.rows.middle(index));
             svg.circle(x, y, 5.5, "restart");
             svg.text(x, y + 3.2, "small", Anchor::Middle, "R");
         }
@@ -206,7 +210,7 @@ impl Page<'_> {
 
     fn band(&self, svg: &mut Svg, index: usize, band: &Band) {
         let (from, to) = (self.axis.at(band.from), self.axis.at_or_end(band.to));
-        let y = self.middle(index);
+        let y = self.rows.middle(index);
         let alias = if band.alias == 0 { String::new() } else { format!("{:03X}", band.alias) };
         let title = format!("node {index}: {} {alias}", band.state.name());
         svg.rect_with(
@@ -216,16 +220,12 @@ impl Page<'_> {
         );
     }
 
-    /// The alias on each band that has room for it, then how many ticks each line was; beside the folds and the signs.
-    fn labels(&self, svg: &mut Svg) {
-        for &index in &self.rows {
+    /// The alias on each band that has room for it, beside the folds and the signs.
+    fn aliases(&self, svg: &mut Svg) {
+        for index in self.rows.nodes() {
             let mut room = self.room(index);
             for band in self.record.bands[index].iter().filter(|band| band.alias != 0) {
-                self.alias(svg, self.middle(index), band, &mut room);
-            }
-            self.take_marks(index, &mut room);
-            for line in self.lines.iter().filter(|line| line.is_of(index)) {
-                line.label(svg, self, &mut room);
+                self.alias(svg, self.rows.middle(index), band, &mut room);
             }
         }
     }
@@ -243,15 +243,22 @@ impl Page<'_> {
         room
     }
 
-    /// Collisions, restarts and the mark of a late list on the row of a node.
-    fn take_marks(&self, index: usize, room: &mut Room) {
-        let collisions = self.record.collisions.iter().filter(|(_, other)| other.index == index);
-        let restarts = self.record.restarts.iter().filter(|(_, other)| *other == index);
-        let late = self.record.late.iter().map(|late| late.count);
-        let counts = collisions.map(|(count, _)| *count).chain(restarts.map(|(count, _)| *count));
-        for middle in counts.chain(late).map(|count| self.axis.at(count)) {
-            room.take(middle - 7.0, middle + 7.0);
+    /// What crosses the rows between two heights: folds, the mark of a late list, ways to collisions and between nodes that use
+    /// one alias.
+    pub fn crossed(&self, heights: (f64, f64)) -> Room {
+        let mut room = Room::default();
+        for fold in &self.axis.folds {
+            let middle = fold.left + fold.width / 2.0;
+            room.take(middle - 6.0, middle + 6.0);
         }
+        let late = self.record.late.iter().map(|late| self.late_mark(late));
+        let shared = self.record.shared.iter().map(|shared| shared::way(self, shared));
+        let leads = self.leads();
+        let leads = leads.iter().flat_map(|lead| lead.windows(2)).map(|ends| [ends[0], ends[1]]);
+        for ends in late.chain(shared).chain(leads) {
+            room.take_stroke(ends, heights, 2.0);
+        }
+        room
     }
 
     fn alias(&self, svg: &mut Svg, y: f64, band: &Band, room: &mut Room) {
@@ -273,7 +280,7 @@ impl Page<'_> {
         for fold in &self.axis.folds {
             let middle = fold.left + fold.width / 2.0;
             fold_mark(svg, middle, TOP, self.lanes.bottom());
-            fold_mark(svg, middle, self.first, self.bottom());
+            fold_mark(svg, middle, self.rows.top, self.rows.bottom());
             let text = format!("{} ticks", fold.ticks);
             if fold.width >= 5.5 * text.len() as f64 {
                 svg.text(middle, y, "small", Anchor::Middle, &text);
@@ -284,54 +291,65 @@ impl Page<'_> {
     /// From where on the list is late.
     fn late(&self, svg: &mut Svg) {
         if let Some(late) = &self.record.late {
-            let x = self.axis.at(late.count);
-            svg.line((x, TOP), (x, self.bottom()), "late");
-            svg.text(x + 4.0, self.late_words(), "late-text", Anchor::Start, LATE);
+            let [from, to] = self.late_mark(late);
+            svg.line(from, to, "late");
+            svg.text(from.0 + 4.0, self.late_words(), "late-text", Anchor::Start, LATE);
         }
+    }
+
+    fn late_mark(&self, late: &Late) -> [(f64, f64); 2] {
+        let x = self.axis.at(late.count);
+        [(x, TOP), (x, self.rows.bottom())]
     }
 
     /// A cross at each collision. While they are few, a way leads there from the frame, by its sender's row.
     fn collisions(&self, svg: &mut Svg) {
-        let few = self.record.collisions.len() <= LED_TO;
-        if few {
-            self.leads(svg);
+        for lead in self.leads() {
+            svg.path(&lead, "lead");
+            if let [_, (x, y), _] = lead[..] {
+                svg.circle(x, y, 3.4, "ring");
+            }
         }
         for (count, collision) in &self.record.collisions {
-            let size = if few { 4.5 } else { 2.5 };
-            svg.cross(self.axis.at(*count), self.middle(collision.index), size);
+            let size = if self.few() { 4.5 } else { 2.5 };
+            svg.cross(self.axis.at(*count), self.rows.middle(collision.index), size);
         }
+    }
+
+    /// Whether collisions are so few that ways lead to them.
+    fn few(&self) -> bool {
+        self.record.collisions.len() <= LED_TO
     }
 
     /// The letter of each link state that a node was told.
     fn links(&self, svg: &mut Svg) {
         for told in &self.record.links {
-            let (x, y) = (self.axis.at(told.count), self.middle(told.index));
+            let (x, y) = (self.axis.at(told.count), self.rows.middle(told.index));
             let title = format!("{}, command {}", told.words(), told.count);
             legend::link_sign(svg, x, y, told.link.state, &title);
         }
     }
 
-    fn leads(&self, svg: &mut Svg) {
-        for (count, collision) in &self.record.collisions {
-            let to = (self.axis.at(*count), self.middle(collision.index));
-            let Some(on_bus) = self.record.frame_of(collision.arrival.count) else { continue };
+    /// The ways to the collisions, each from a frame, by the row of its sender, where that is a node.
+    fn leads(&self) -> Vec<Vec<(f64, f64)>> {
+        let collisions = self.record.collisions.iter().filter(|_| self.few());
+        let lead = |(count, collision): &(usize, Collision)| {
+            let on_bus = self.record.frame_of(collision.arrival.count)?;
             let x = self.axis.at(on_bus.count);
             let mut way = vec![(x, self.lanes.middle(&on_bus.frame) + 4.0)];
             if let Sender::Node(index) = on_bus.from {
-                way.push((x, self.middle(index)));
+                way.push((x, self.rows.middle(index)));
             }
-            way.push(to);
-            svg.path(&way, "lead");
-            if let Sender::Node(index) = on_bus.from {
-                svg.circle(x, self.middle(index), 3.4, "ring");
-            }
-        }
+            way.push((self.axis.at(*count), self.rows.middle(collision.index)));
+            Some(way)
+        };
+        collisions.filter_map(lead).collect()
     }
 
     /// The first collisions in words; gives the place below them.
     fn told(&self, svg: &mut Svg) -> f64 {
         let collisions = &self.record.collisions;
-        let mut y = self.bottom() + 24.0;
+        let mut y = self.rows.bottom() + 24.0;
         if !self.record.shared.is_empty() {
             y += shared::HEIGHT;
         }

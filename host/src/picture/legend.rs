@@ -1,6 +1,7 @@
 //! What the signs of a drawing mean.
 
 use super::draw::fold_mark;
+use super::overdue::LineSort;
 use super::shared;
 use super::style::class_of;
 use super::svg::{Anchor, Svg};
@@ -14,15 +15,14 @@ const ROW: f64 = 20.0;
 /// Which signs are drawn besides those of every drawing.
 pub struct Signs {
     pub links: bool,
-    /// Inbox frames that stood too long, and a reply RID or AMR that waited too long.
-    pub stood: bool,
-    pub waited: bool,
+    /// The sorts of lines of what was overdue.
+    pub lines: Vec<LineSort>,
     pub shared: bool,
 }
 
 impl Signs {
     pub fn overdue(&self) -> bool {
-        self.stood || self.waited
+        !self.lines.is_empty()
     }
 }
 
@@ -58,13 +58,9 @@ pub fn draw(svg: &mut Svg, left: f64, top: f64, drawn: &Signs) -> f64 {
 /// Two nodes use one alias only where something was overdue.
 fn overdue_signs(svg: &mut Svg, left: f64, y: f64, drawn: &Signs) {
     let mut x = left;
-    let lines = [
-        (drawn.stood, "stood", "an inbox frame stood"),
-        (drawn.waited, "waited", "a reply RID or AMR waited"),
-    ];
-    for (_, class, what) in lines.iter().filter(|(is_drawn, ..)| *is_drawn) {
-        svg.rect(x, y - 1.0, 26.0, 2.0, class);
-        let text = format!("{what} for more than {KEPT} ticks");
+    for sort in &drawn.lines {
+        let text = format!("{} for more than {KEPT} ticks", sort.words());
+        sort.line(svg, (x, x + 26.0), y, &text);
         svg.text(x + 32.0, y + 4.0, "", Anchor::Start, &text);
         x += 350.0;
     }

@@ -7,6 +7,7 @@ mod legend;
 mod overdue;
 mod record;
 mod room;
+mod rows;
 mod shared;
 mod style;
 mod svg;

@@ -1,35 +1,62 @@
-//! What stood or waited too long, as lines along the bottom of a node's bands. Frames that stood in one inbox at one time are one
-//! line.
+//! What stood or waited too long, as lines below a node's bands. Frames that stood in one inbox at one time are one line.
 
 use super::draw::Page;
 use super::record::{Overdue, Record, Step};
-use super::room::Room;
+use super::rows::TRACK;
 use super::svg::{Anchor, Svg};
 use crate::watch::Aged;
 use crate::words;
 
-/// How thick a line is, and about how wide a letter of its text.
-const THICK: f64 = 2.0;
-const LETTER: f64 = 3.6;
+/// How thick a line is, and the strokes at its ends; how high these are.
+const THICK: f64 = 3.0;
+const END: (f64, f64) = (1.6, 8.0);
+/// How much of a line is to be seen before and behind its text, where there is room; about how wide a letter of that is.
+const SEEN: f64 = 8.0;
+const LETTER: f64 = 5.0;
 
-/// The classes of a line and of its text; how far below the middle of the row the line and the white under the text begin; how high
-/// that is.
-struct Look {
-    line: &'static str,
-    text: &'static str,
-    below: f64,
-    white: f64,
-    high: f64,
+/// The two sorts of lines, in the order of their tracks.
+#[derive(Clone, Copy, PartialEq, Eq)]
+pub enum LineSort {
+    Stood,
+    Waited,
 }
 
-/// On the band, and below it: a node can have both at one time.
-const STOOD: Look = Look { line: "stood", text: "stood-text", below: 5.6, white: 3.8, high: 5.6 };
-const WAITED: Look =
-    Look { line: "waited", text: "waited-text", below: 9.4, white: 7.7, high: 4.8 };
+impl LineSort {
+    /// Those of some lines, in order.
+    pub fn all_of<'a>(lines: impl Iterator<Item = &'a Line> + Clone) -> Vec<LineSort> {
+        let is_there = |sort: &LineSort| lines.clone().any(|line| line.sort() == *sort);
+        [LineSort::Stood, LineSort::Waited].into_iter().filter(is_there).collect()
+    }
+
+    /// The class of its lines.
+    fn class(self) -> &'static str {
+        match self {
+            LineSort::Stood => "stood",
+            LineSort::Waited => "waited",
+        }
+    }
+
+    /// What it shows, for the legend.
+    pub fn words(self) -> &'static str {
+        match self {
+            LineSort::Stood => "an inbox frame stood",
+            LineSort::Waited => "a reply RID or AMR waited",
+        }
+    }
+
+    /// A line around a height, with a stroke at each end: another line may begin there.
+    pub fn line(self, svg: &mut Svg, (from, to): (f64, f64), y: f64, title: &str) {
+        svg.rect_with([from, y - THICK / 2.0, to - from, THICK], self.class(), title);
+        let (wide, high) = END;
+        for x in [from, to - wide] {
+            svg.rect(x, y - high / 2.0, wide, high, &format!("{}-end", self.class()));
+        }
+    }
+}
 
 /// Frames of one node: the first of them, how many, where the last of them ended, and their least and greatest age.
 pub struct Line {
-    index: usize,
+    pub index: usize,
     first: Aged,
     frames: usize,
     end: Option<(usize, usize)>,
@@ -90,15 +117,11 @@ impl Line {
         self.ages = (self.ages.0.min(later.ages.0), self.ages.1.max(later.ages.1));
     }
 
-    pub fn stood(&self) -> bool {
-        is_in_an_inbox(&self.first)
-    }
-
-    fn look(&self) -> Look {
-        if self.stood() {
-            STOOD
+    pub fn sort(&self) -> LineSort {
+        if is_in_an_inbox(&self.first) {
+            LineSort::Stood
         } else {
-            WAITED
+            LineSort::Waited
         }
     }
 
@@ -130,27 +153,31 @@ impl Line {
     }
 
     pub fn draw(&self, svg: &mut Svg, page: &Page) {
-        let ((from, to), look) = (self.reach(page), self.look());
-        let place = [from, page.middle(self.index) + look.below, to - from, THICK];
-        svg.rect_with(place, look.line, &self.title());
+        self.sort().line(svg, self.reach(page), self.middle(page), &self.title());
     }
 
-    /// How many ticks it was, where there is room for that.
-    pub fn label(&self, svg: &mut Svg, page: &Page, room: &mut Room) {
+    /// How many ticks it was, in the line: beside what crosses its track, else over that, where the line is long enough.
+    pub fn label(&self, svg: &mut Svg, page: &Page) {
+        let text = self.text();
+        let (width, (from, to), y) =
+            (LETTER * text.len() as f64, self.reach(page), self.middle(page));
+        let (top, bottom) = (y - TRACK / 2.0, y + TRACK / 2.0);
+        let beside = page.crossed((top, bottom)).find(from + SEEN, to - SEEN, width);
+        let over = (to - from >= width + 2.0 * END.0).then_some((from + to - width) / 2.0);
+        let Some(x) = beside.or(over) else { return };
+        svg.rect(x, top, width, bottom - top, "paper");
+        let class = format!("{}-text", self.sort().class());
+        svg.text(x + width / 2.0, y + 3.2, &class, Anchor::Middle, &text);
+    }
+
+    fn text(&self) -> String {
         let (least, greatest) = self.ages;
         let up_to = if least == greatest { "" } else { "up to " };
-        let text = format!("{up_to}{greatest} ticks");
-        let width = LETTER * text.len() as f64;
-        let (from, to) = self.reach(page);
-        let Some(x) = room.find(from + 8.0, to - 4.0, width) else { return };
-        room.take(x, x + width);
-        let look = self.look();
-        let y = page.middle(self.index) + look.white;
-        svg.rect(x, y, width, look.high, "paper");
-        svg.text(x + width / 2.0, y + look.high - 0.4, look.text, Anchor::Middle, &text);
+        format!("{up_to}{greatest} ticks")
     }
 
-    pub fn is_of(&self, index: usize) -> bool {
-        self.index == index
+    /// The middle of its track.
+    fn middle(&self, page: &Page) -> f64 {
+        page.rows.track(self.index, self.sort())
     }
 }

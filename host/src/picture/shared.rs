@@ -11,14 +11,20 @@ pub const HEIGHT: f64 = 12.0;
 pub fn draw(svg: &mut Svg, page: &Page) {
     let mut room = Room::default();
     for shared in &page.record.shared {
-        let x = page.axis.at(shared.count);
-        let foot = if page.late_words_reach(x) { page.bottom() } else { foot(page) };
-        svg.line((x, page.middle(shared.nodes[0])), (x, foot), "shared-way");
+        let [from, to] = way(page, shared);
+        svg.line(from, to, "shared-way");
         for &index in &shared.nodes {
-            sign(svg, x, page.middle(index), shared.nodes.len(), &shared.words());
+            sign(svg, from.0, page.rows.middle(index), shared.nodes.len(), &shared.words());
         }
         words(svg, page, shared, &mut room);
     }
+}
+
+/// The way from the first node that uses the alias, by the others, to the words.
+pub fn way(page: &Page, shared: &Shared) -> [(f64, f64); 2] {
+    let x = page.axis.at(shared.count);
+    let foot = if page.late_words_reach(x) { page.rows.bottom() } else { foot(page) };
+    [(x, page.rows.middle(shared.nodes[0])), (x, foot)]
 }
 
 /// Where the words stand.

@@ -32,12 +32,16 @@ const LINK: &str = r##"<style>
 </style>
 "##;
 
-/// The two are told apart in grey print by their place: on the band, and below it.
-const OVERDUE: &str = r##"<style>
-.stood { fill: #1030e0; stroke: #fff; stroke-width: 0.6; }
-.stood-text { font-size: 6.5px; fill: #1030e0; }
-.waited { fill: #a000b8; stroke: #fff; stroke-width: 0.6; }
-.waited-text { font-size: 6.5px; fill: #a000b8; }
+/// The two are told apart in grey print by their strokes: whole, and broken.
+const OVERDUE: &str = r##"<defs>
+<pattern id="p-waited" width="8" height="8" patternUnits="userSpaceOnUse"><rect width="5.5" height="8" fill="#a000b8"/></pattern>
+</defs>
+<style>
+.stood, .stood-end { fill: #1030e0; }
+.stood-text { font-size: 9px; fill: #1030e0; }
+.waited { fill: url(#p-waited); }
+.waited-end { fill: #a000b8; }
+.waited-text { font-size: 9px; fill: #a000b8; }
 </style>
 "##;
 
