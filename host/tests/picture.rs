@@ -274,7 +274,8 @@ const CROSSING: [&str; 4] = ["fold", "late", "lead", "shared-way"];
 /// The examples, and lists in which much is late.
 fn lists() -> impl Iterator<Item = String> {
     let random = (0..300).flat_map(|seed| [random::list(seed), random::contest(seed)]);
-    names().into_iter().map(|name| example(&name)).chain(random)
+    let examples = names().into_iter().map(|name| example(&name));
+    examples.chain(random).chain((0..10).map(random::crowd))
 }
 
 /// Lines and their texts cover no band, no sign, and no other of them; a text stands in its line, and nothing lies upon it.

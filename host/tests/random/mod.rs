@@ -89,6 +89,26 @@ pub fn contest(seed: u64) -> String {
     )
 }
 
+/// All 24 nodes, up or still in test, of which some are left to wait: all or one of them send and are delivered between long delays.
+pub fn crowd(seed: u64) -> String {
+    let random = &mut Random::new(seed);
+    let mut text: String =
+        (0..24).map(|index| format!("on {index} 0501010101{:02X}\n", index / 2)).collect();
+    text += random.pick(&["settle 210\n", "settle 30\n"]);
+    for _ in 0..12 {
+        let index = random.below(24);
+        text += &match random.below(6) {
+            0 => format!("release {index}\n"),
+            1 => format!("send {index}\n"),
+            2 => format!("deliver {index}\n"),
+            3 => "deliver all\nsend all\n".into(),
+            4 => format!("foreign CID 7 {}\n", random.pick(&["263", "264", "26A"])),
+            _ => format!("tick {}\n", 20 + random.below(50)),
+        };
+    }
+    text
+}
+
 fn script_of(random: &mut Random, line: impl Fn(&mut Random) -> String) -> String {
     let lines = random.below(40);
     let mut text = String::new();
