@@ -275,7 +275,8 @@ const CROSSING: [&str; 4] = ["fold", "late", "lead", "shared-way"];
 fn lists() -> impl Iterator<Item = String> {
     let random = (0..300).flat_map(|seed| [random::list(seed), random::contest(seed)]);
     let examples = names().into_iter().map(|name| example(&name));
-    examples.chain(random).chain((0..10).map(random::crowd))
+    let crowds = (0..10).map(|seed| random::crowd(seed) + &random::contest(seed));
+    examples.chain(random).chain(crowds).chain((0..40).map(random::neglect))
 }
 
 /// Lines and their texts cover no band, no sign, and no other of them; a text stands in its line, and nothing lies upon it.

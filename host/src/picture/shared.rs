@@ -11,20 +11,20 @@ pub const HEIGHT: f64 = 12.0;
 pub fn draw(svg: &mut Svg, page: &Page) {
     let mut room = Room::default();
     for shared in &page.record.shared {
-        let [from, to] = way(page, shared);
-        svg.line(from, to, "shared-way");
+        let [from, (x, bottom)] = way(page, shared);
+        let is_told = words(svg, page, shared, &mut room);
+        let end = if is_told && !page.late_words_reach(x) { foot(page) } else { bottom };
+        svg.line(from, (x, end), "shared-way");
         for &index in &shared.nodes {
-            sign(svg, from.0, page.rows.middle(index), shared.nodes.len(), &shared.words());
+            sign(svg, x, page.rows.middle(index), shared.nodes.len(), &shared.words());
         }
-        words(svg, page, shared, &mut room);
     }
 }
 
-/// The way from the first node that uses the alias, by the others, to the words.
+/// The way from the first node that uses the alias, by the others, to below the rows. Where it has words, it goes on to them.
 pub fn way(page: &Page, shared: &Shared) -> [(f64, f64); 2] {
     let x = page.axis.at(shared.count);
-    let foot = if page.late_words_reach(x) { page.rows.bottom() } else { foot(page) };
-    [(x, page.rows.middle(shared.nodes[0])), (x, foot)]
+    [(x, page.rows.middle(shared.nodes[0])), (x, page.rows.bottom())]
 }
 
 /// Where the words stand.
@@ -38,8 +38,8 @@ pub fn sign(svg: &mut Svg, x: f64, y: f64, nodes: usize, title: &str) {
     svg.text(x, y + 3.4, "shared-text", Anchor::Middle, &nodes.to_string());
 }
 
-/// Beside the way, on the side that has more room, unless words stand there already.
-fn words(svg: &mut Svg, page: &Page, shared: &Shared, room: &mut Room) {
+/// Beside the way, on the side that has more room, unless words stand there already; gives whether they are written.
+fn words(svg: &mut Svg, page: &Page, shared: &Shared, room: &mut Room) -> bool {
     let nodes = if shared.nodes.len() == 2 { "two".into() } else { shared.nodes.len().to_string() };
     let text = format!("{nodes} nodes use alias {:03X} from here on", shared.alias);
     let (x, width) = (page.axis.at(shared.count), BOLD * text.len() as f64);
@@ -48,8 +48,10 @@ fn words(svg: &mut Svg, page: &Page, shared: &Shared, room: &mut Room) {
     } else {
         (x - width, x - 4.0, Anchor::End)
     };
-    if room.find(left, left + width, width).is_some() {
+    let is_free = room.find(left, left + width, width).is_some();
+    if is_free {
         room.take(left, left + width);
         svg.text(place, foot(page), "late-text", anchor, &text);
     }
+    is_free
 }

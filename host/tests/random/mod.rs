@@ -89,11 +89,11 @@ pub fn contest(seed: u64) -> String {
     )
 }
 
-/// All 24 nodes, up or still in test, of which some are left to wait: all or one of them send and are delivered between long delays.
+/// All 24 nodes, up or still in test, of which some are left to wait: all or one of them send and are delivered, with long delays.
 pub fn crowd(seed: u64) -> String {
     let random = &mut Random::new(seed);
     let mut text: String =
-        (0..24).map(|index| format!("on {index} 0501010101{:02X}\n", index / 2)).collect();
+        (0..24).map(|index| format!("on {index} 0501010102{:02X}\n", index / 2)).collect();
     text += random.pick(&["settle 210\n", "settle 30\n"]);
     for _ in 0..12 {
         let index = random.below(24);
@@ -102,9 +102,23 @@ pub fn crowd(seed: u64) -> String {
             1 => format!("send {index}\n"),
             2 => format!("deliver {index}\n"),
             3 => "deliver all\nsend all\n".into(),
-            4 => format!("foreign CID 7 {}\n", random.pick(&["263", "264", "26A"])),
+            4 => format!("foreign CID 7 {}\n", random.pick(&["362", "363", "36A"])),
             _ => format!("tick {}\n", 20 + random.below(50)),
         };
+    }
+    text
+}
+
+/// Pairs of nodes that start with one alias and are delivered nothing, so that each pair comes to use it, one after another.
+pub fn neglect(seed: u64) -> String {
+    let random = &mut Random::new(seed);
+    let nodes = 2 * (1 + random.below(4));
+    let mut text: String =
+        (0..nodes).map(|index| format!("on {index} 0501010101{:02X}\n", index / 2)).collect();
+    text += "send all\nsend all\nsend all\nsend all\ntick 201\n";
+    for index in 0..nodes {
+        text += &format!("send {index}\n");
+        text += random.pick(&["", "tick\n", "tick 3\n", "fail 0\ntick\nfail 1\ntick 20\n"]);
     }
     text
 }
