@@ -63,7 +63,8 @@ void card_new(uint64_t table[CARD_WORDS]);
 /* 1 where a frame has stood in an inbox, or a reply RID or an AMR has waited, for more than 40 ticks since card_new; else 0.
  * While it is 0 no two nodes use one alias. That holds as well, whatever this answers, while no frame has stood for more than i
  * ticks and no reply RID or AMR has waited for more than o, for any i and o with 2i + o and i + 2o at most 200. No operation
- * gives these two: a caller with other limits than 40 counts for itself, by card_look and card_inbox after each command. */
+ * gives these two: a caller with other limits than 40 counts for itself, by the commands that it gives and their answers, and by
+ * card_look after each. */
 uint64_t card_is_late(const uint64_t table[CARD_WORDS]);
 
 /* The node starts anew with this Node ID, whatever it did before. 1, 3. */

@@ -63,7 +63,7 @@ static void show_table(void) {
         show_alias(found[0]);
         printf("  %s\n", words[CARD_SEEN_STATE] == CARD_STATE_PERMITTED ? "yes" : "no");
     }
-    printf("%s\n\n", card_is_late(table) ? "late: aliases may have met" : "kept: no two exhibits use one alias");
+    printf("%s\n\n", card_is_late(table) ? "late: something stood or waited for more than 40 ticks" : "kept: no two exhibits use one alias");
 }
 
 /* Every frame in an inbox is delivered, so that none waits. */

@@ -6,7 +6,7 @@ use crate::words;
 pub const KEPT: usize = 40;
 
 /// By request A.3 aliases are single while neither of its two sums is above this.
-const SINGLE: usize = 200;
+const MOST_SUM: usize = 200;
 
 /// In ticks; 0 where there was no such frame.
 #[derive(Clone, Copy, Debug, Default, PartialEq, Eq)]
@@ -24,7 +24,7 @@ impl Ages {
 
     /// Whether request A.3 promises that aliases are single.
     pub fn keep_aliases_single(&self) -> bool {
-        self.sums().iter().all(|(_, sum)| *sum <= SINGLE)
+        self.sums().iter().all(|(_, sum)| *sum <= MOST_SUM)
     }
 
     /// The two sums of request A.3, as they are written and what they are.
@@ -47,19 +47,19 @@ impl Ages {
     /// What request A.3 says of a list that is late.
     pub fn promise(&self) -> String {
         let (above, within): (Vec<_>, Vec<_>) =
-            self.sums().into_iter().partition(|(_, sum)| *sum > SINGLE);
+            self.sums().into_iter().partition(|(_, sum)| *sum > MOST_SUM);
         let written = |sums: &[(String, usize)]| {
             let sums = sums.iter().map(|(sum, number)| format!("{sum} = {number}"));
             sums.collect::<Vec<_>>().join(" and ")
         };
         let (high, low) = (written(&above), written(&within));
         let (then, sums) = match above.len() {
-            0 => ("aliases are single all the same", format!("{low} are not above {SINGLE}")),
+            0 => ("aliases are single all the same", format!("{low} are not above {MOST_SUM}")),
             1 => (
                 "single aliases are not promised",
-                format!("{high} is above {SINGLE}, {low} is not"),
+                format!("{high} is above {MOST_SUM}, {low} is not"),
             ),
-            _ => ("single aliases are not promised", format!("{high} are above {SINGLE}")),
+            _ => ("single aliases are not promised", format!("{high} are above {MOST_SUM}")),
         };
         format!("By request A.3 {then}: {sums}.")
     }

@@ -1,4 +1,5 @@
-//! What the tool `lcc` is made of. It has no behaviour of its own: every answer and every state comes from the proved library.
+//! What the tool `lcc` is made of. It has no behaviour of its own: every answer and every state comes from the proved library; ages
+//! are counted from these.
 
 pub mod actions;
 pub mod ages;

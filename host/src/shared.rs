@@ -26,9 +26,6 @@ impl Shared {
 
     pub fn words(&self) -> String {
         let Shared { alias, nodes, tick, count } = self;
-        format!(
-            "{} use alias {alias:03X} from tick {tick} on (command {count})",
-            words::nodes(nodes)
-        )
+        format!("{} use alias {alias:03X} at tick {tick} (command {count})", words::nodes(nodes))
     }
 }

@@ -194,7 +194,7 @@ impl Watch {
         moment.longest = self.longest;
         if !self.late && card.is_late() {
             self.late = true;
-            moment.late = first_late(&moment);
+            moment.late = self.oldest(&moment);
         }
         moment
     }
@@ -236,6 +236,15 @@ impl Watch {
         stood.chain(waited.filter_map(|(i, owed)| owed.map(|owed| (i, Aged::Due(owed)))))
     }
 
+    /// The oldest of all frames that have an age: what made the list late by this command.
+    fn oldest(&self, moment: &Moment) -> Option<Late> {
+        let age = self.aged().map(|(_, frame)| frame.age(self.tick)).max()?;
+        let mut oldest = self.aged().filter(|(_, frame)| frame.age(self.tick) == age);
+        let (index, what) = oldest.next()?;
+        let (tick, count) = (moment.tick, moment.turn.count);
+        Some(Late { tick, count, index, what, others: oldest.count() })
+    }
+
     /// What a tick does to all ages.
     fn grow_older(&mut self, moment: &mut Moment) {
         let mut longest = self.longest;
@@ -252,13 +261,6 @@ impl Watch {
         }
         self.longest = longest;
     }
-}
-
-/// What made a list late: the first that is overdue by this command.
-fn first_late(moment: &Moment) -> Option<Late> {
-    let (&(index, what), others) = moment.overdue.split_first()?;
-    let (tick, count) = (moment.tick, moment.turn.count);
-    Some(Late { tick, count, index, what, others: others.len() })
 }
 
 /// Of due frames, a reply RID and an AMR have an age; the RID that reserves an alias has none.

@@ -66,12 +66,21 @@ fn examples_have_the_ages_of_their_names() {
         let (longest, summary) = played(&example(name));
         assert_eq!(longest, Ages { stood, waited }, "{name}");
         let words = "2 use 1 alias: TWO USE ONE.\nNo collisions.\nNodes came to use one alias:\n  \
-                     nodes 0, 1 use alias 263 from tick 402 on (command 420)\n420 commands, 0 of them refused; ";
+                     nodes 0, 1 use alias 263 at tick 402 (command 420)\n420 commands, 0 of them refused; ";
         assert!(
             summary.contains(words) && summary.contains("\nlate from tick 242 on"),
             "{summary}"
         );
     }
+}
+
+/// Node 0 is delivered the other's RID and gives the alias up: that the two used it stays in the summary, and is over.
+#[test]
+fn what_was_shared_is_told_also_when_it_is_over() {
+    let (_, summary) = played(&format!("{}\ndeliver 0\nsend 0\n", example("limits-68-65")));
+    let over = summary.contains("; one uses an alias.\n");
+    let told = summary.contains("\n  nodes 0, 1 use alias 263 at tick 402 (command 420)\n");
+    assert!(over && told, "{summary}");
 }
 
 /// Lists after which node 0 is Permitted, and the last lines of their summaries.

@@ -140,19 +140,23 @@ fn what_stood_and_waited_too_long_is_drawn() {
 /// A sign on both rows, with words, and one in the legend.
 #[test]
 fn two_nodes_on_one_alias_are_marked() {
-    let title = "nodes 0, 1 use alias 263 from tick 402 on (command 420)";
+    let title = "nodes 0, 1 use alias 263 at tick 402 (command 420)";
     for (name, _) in BEYOND {
         let picture = drawn(&example(name));
-        assert_eq!(titles(&picture, "shared"), [title, title, "two nodes use one alias"], "{name}");
-        let below = ["late from here on", "two nodes use alias 263 from here on"];
+        assert_eq!(
+            titles(&picture, "shared"),
+            [title, title, "two nodes come to use one alias"],
+            "{name}"
+        );
+        let below = ["late from here on", "two nodes come to use alias 263"];
         assert_eq!(texts(&picture, "late-text"), below, "{name}");
-        assert!(picture.contains(">two nodes use one alias from here on<"), "{name}");
+        assert!(picture.contains(">two nodes come to use one alias<"), "{name}");
     }
 }
 
 /// The lines, their styles and their legend are there only where the list is late.
 #[test]
-fn other_drawings_have_no_new_signs() {
+fn drawings_of_kept_lists_have_no_signs_of_ages() {
     let mut kept = 0;
     for name in names() {
         let picture = drawn(&example(&name));

@@ -62,14 +62,14 @@ pub data Carried : List Command → List A.Answer → List ℕ → Type 0 where
 
 -- A.3: let i be the most ticks an inbox frame may stand and o the most that a reply RID or AMR may wait. Allowed is every i and o
 -- with 2 × i + o at most 200 and i + 2 × o at most 200.
-abbrev pub most : ℕ
-most = 200
+abbrev pub mostSum : ℕ
+mostSum = 200
 
 abbrev pub Allowed : (i o : ℕ) → Type 0
-Allowed i o = (2 * i + o ≤ most) × (i + 2 * o ≤ most)
+Allowed i o = (2 * i + o ≤ mostSum) × (i + 2 * o ≤ mostSum)
 
 -- Aliases are single, in the words of a table.
-pub record Single (t : List ℕ) : Type 0 where
+pub record SingleAliases (t : List ℕ) : Type 0 where
   -- no two nodes use one alias
   pub one-user : (p q : ℕ) → p < places → q < places → p ≢ q
       → uses (nodeAt t p .phase) ≡ true → uses (nodeAt t q .phase) ≡ true → nodeAt t p .alias .0 ≢ nodeAt t q .alias .0
@@ -89,7 +89,7 @@ pub record Claim (cs : List Command) (xs : List A.Answer) (t : List ℕ) : Type 
   pub late : lateOf t ≡ not (isKept limit limit cs)
   -- A.3: aliases stay single for every such i and o, where in the list no inbox frame's age exceeds i and no reply RID's or AMR's
   -- exceeds o
-  pub single : (i o : ℕ) → Allowed i o → isKept i o cs ≡ true → Single t
+  pub single : (i o : ℕ) → Allowed i o → isKept i o cs ≡ true → SingleAliases t
 
 -- LISTS WITH ONE MORE COMMAND
 
@@ -297,7 +297,7 @@ claim {cs} {xs} {t} r = record {
 }
 
 -- Document 01's limits, 40 and 40, are one case.
-pub base : {cs : List Command} {xs : List A.Answer} {t : List ℕ} → Carried cs xs t → isKept limit limit cs ≡ true → Single t
+pub base : {cs : List Command} {xs : List A.Answer} {t : List ℕ} → Carried cs xs t → isKept limit limit cs ≡ true → SingleAliases t
 base r = claim r .single limit limit (omega arith, omega arith)
 
 -- What late tells of other limits: a list that is not late keeps all that are as great or greater, a late one none that are as small

@@ -1,4 +1,4 @@
--- A.3's limits cannot be loosened: where one sum is 201 there is a list within the limits, after which two nodes use one alias.
+-- A.3's limits cannot be loosened: lists within limits just beyond them, after which two nodes use one alias.
 use mathlib.Core.Path.{_≡_, refl, sym, _∙_}
 use mathlib.Core.Logic.{_≢_}
 use mathlib.Core.Bool.{Bool, true, false}
@@ -55,7 +55,7 @@ use Rattle.segment_rules.specs.Rules.{
   isKept,
 }
 use Rattle.claim.specs.Single.{single}
-use Rattle.claim.specs.Claim.{most, Allowed, kept-more}
+use Rattle.claim.specs.Claim.{mostSum, Allowed, kept-more}
 
 -- No two nodes use one alias, after every list within these limits.
 abbrev pub Safe : (i o : ℕ) → Type 0
@@ -91,7 +91,7 @@ abbrev pub lateAmr : (stand waiting again : ℕ) → List Command
 lateAmr i o again = asked i o ++ release 0 ∷ replicate again tick ++ send 1 ∷ []
 
 -- By computation. A late reply where 2 × i + o alone is 201, a late AMR where i + 2 × o alone is, a late reply where both are; and
--- where one limit is as small as it can be.
+-- a tick beyond (100, 0) and (0, 100), either way.
 pub broken :
     Broken 68 65 (lateReply 68 65 68) × Broken 65 68 (lateAmr 65 68 68) × Broken 67 67 (lateReply 67 67 67)
     × Broken 101 0 (lateReply 101 0 100) × Broken 100 1 (lateReply 100 1 100) × Broken 0 101 (lateAmr 0 101 100) × Broken 1 100 (lateAmr 1 100 100)
@@ -118,24 +118,24 @@ not-safe i o i′ o′ {cs} b hi ho safe =
 pub safe : (i o : ℕ) → Allowed i o → Safe i o
 safe i o h cs e p q hp hq ne = single i o (omega (arith, h .0)) (omega (arith, h .1)) cs e p q hp hq ne
 
-pub no-looser : (a b : ℕ) → most ≤ a → most ≤ b → ((i o : ℕ) → 2 * i + o ≤ a → i + 2 * o ≤ b → Safe i o) → (a ≡ most) × (b ≡ most)
+pub no-looser : (a b : ℕ) → mostSum ≤ a → mostSum ≤ b → ((i o : ℕ) → 2 * i + o ≤ a → i + 2 * o ≤ b → Safe i o) → (a ≡ mostSum) × (b ≡ mostSum)
 no-looser a b ha hb all = (
   at-most a ha (λ h. not-safe 68 65 68 65 (broken .0) (omega arith) (omega arith) (all 68 65 (omega (arith, h)) (omega (arith, hb)))),
   at-most b hb (λ h. not-safe 65 68 65 68 (broken .1) (omega arith) (omega arith) (all 65 68 (omega (arith, ha)) (omega (arith, h)))),
 )
   where
-    at-most : (x : ℕ) → most ≤ x → (most < x → ⊥) → x ≡ most
-    at-most x h less = go (ltb most x) refl
+    at-most : (x : ℕ) → mostSum ≤ x → (mostSum < x → ⊥) → x ≡ mostSum
+    at-most x h less = go (ltb mostSum x) refl
       where
-        go : (c : Bool) → ltb most x ≡ c → x ≡ most
-        go true e = absurd (less (ltb-true most x e))
-        go false e = let le = ltb-false most x e in omega (arith, h, le)
+        go : (c : Bool) → ltb mostSum x ≡ c → x ≡ mostSum
+        go true e = absurd (less (ltb-true mostSum x e))
+        go false e = let le = ltb-false mostSum x e in omega (arith, h, le)
 
 -- A corner of what A.3 allows: one tick more for either limit is not safe.
 abbrev pub Corner : (i o : ℕ) → Type 0
 Corner i o = Allowed i o × (Safe (i + 1) o → ⊥) × (Safe i (o + 1) → ⊥)
 
--- (66, 66) is allowed and none, since both of its neighbours are.
+-- (66, 66) is allowed and is no corner, since (67, 66) and (66, 67) are allowed.
 pub corners : Corner 100 0 × Corner 0 100 × Corner 67 66 × Corner 66 67 × Allowed 66 66
 corners = (
   ((omega arith, omega arith), not-safe 101 0 101 0 (broken .3) (omega arith) (omega arith), not-safe 100 1 100 1 (broken .4) (omega arith) (omega arith)),

@@ -65,8 +65,8 @@ fn overdue_signs(svg: &mut Svg, left: f64, y: f64, drawn: &Signs) {
         x += 350.0;
     }
     if drawn.shared {
-        shared::sign(svg, x + 6.0, y, 2, "two nodes use one alias");
-        svg.text(x + 18.0, y + 4.0, "", Anchor::Start, "two nodes use one alias from here on");
+        shared::sign(svg, x + 6.0, y, 2, "two nodes come to use one alias");
+        svg.text(x + 18.0, y + 4.0, "", Anchor::Start, "two nodes come to use one alias");
     }
 }
 

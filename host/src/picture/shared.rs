@@ -41,7 +41,7 @@ pub fn sign(svg: &mut Svg, x: f64, y: f64, nodes: usize, title: &str) {
 /// Beside the way, on the side that has more room, unless words stand there already; gives whether they are written.
 fn words(svg: &mut Svg, page: &Page, shared: &Shared, room: &mut Room) -> bool {
     let nodes = if shared.nodes.len() == 2 { "two".into() } else { shared.nodes.len().to_string() };
-    let text = format!("{nodes} nodes use alias {:03X} from here on", shared.alias);
+    let text = format!("{nodes} nodes come to use alias {:03X}", shared.alias);
     let (x, width) = (page.axis.at(shared.count), BOLD * text.len() as f64);
     let (left, place, anchor) = if x < (page.axis.left + page.axis.right) / 2.0 {
         (x, x + 4.0, Anchor::Start)

@@ -27,6 +27,11 @@ impl Limits {
         2 * inbox + waiting <= Self::MOST && inbox + 2 * waiting <= Self::MOST
     }
 
+    /// Whether a list with these ages is kept.
+    pub fn are_kept(self) -> bool {
+        self.are_within(Limits::KEPT)
+    }
+
     /// Whether what keeps these limits keeps the others too.
     pub fn are_within(self, others: Limits) -> bool {
         self.inbox <= others.inbox && self.waiting <= others.waiting

@@ -43,6 +43,6 @@ impl Watch {
 
     /// Whether the list is late, and has single aliases by A.3 all the same.
     pub fn is_late_but_allowed(&self) -> bool {
-        !self.greatest.are_within(Limits::KEPT) && self.greatest.are_allowed()
+        !self.greatest.are_kept() && self.greatest.are_allowed()
     }
 }

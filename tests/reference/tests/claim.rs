@@ -3,6 +3,7 @@
 mod common;
 
 use common::seed;
+use reference::alias::ALIASES;
 use reference::generate::contests;
 use reference::generate::corpus;
 use reference::generate::draft::Draft;
@@ -47,7 +48,7 @@ fn aliases_are_single_in_the_corpus() {
 #[test]
 fn a_late_list_can_break_the_claim() {
     let mut draft = Draft::permitted(&[0x0501_0101_0101]);
-    draft.power_on(1, 0x0501_0101_0101 + 4095);
+    draft.power_on(1, 0x0501_0101_0101 + ALIASES);
     draft.send(1).send(1).send(1).send(1).ticks(201).send(1);
     assert_eq!(draft.alias(0), draft.alias(1));
     assert_eq!(draft.state(1), State::Reserved);

@@ -10,6 +10,9 @@ use reference::generate::walker::{walk, Temper};
 use reference::Command;
 use std::process::exit;
 
+/// Of so many scripts some are at corners of A.3's region, and some late by 40 and 40 and yet within it.
+const ENOUGH: u64 = 1_000;
+
 fn main() {
     let seed = setting("SEED", 0, fresh_seed());
     let scripts = setting("SCRIPTS", 1, 20_000);
@@ -30,6 +33,12 @@ fn main() {
         kept += usize::from(proved.run(&script).ends_with(b"kept\n"));
         at_corners += usize::from(at_corner);
         allowed += usize::from(watch.is_late_but_allowed());
+    }
+    if scripts >= ENOUGH && at_corners.min(allowed) == 0 {
+        println!(
+            "compare: of {scripts} scripts none is at a corner of A.3's region, or none is late by 40 and 40 and yet within it"
+        );
+        exit(1);
     }
     println!("compare: {scripts} scripts agree, SEED={seed}: {bytes} bytes, {damaged} damaged, {kept} kept");
     println!(

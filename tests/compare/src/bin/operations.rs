@@ -82,7 +82,7 @@ impl Run {
         });
         self.show_progress(list.len());
         self.lists += 1;
-        self.late += usize::from(!greatest.are_within(Limits::KEPT));
+        self.late += usize::from(!greatest.are_kept());
         self.done += list.len();
         self.far += list.iter().filter(|operation| operation.command().is_none()).count();
         self.links += list.iter().filter(|operation| matches!(operation, Operation::Link { .. })).count();

@@ -40,7 +40,7 @@ impl Counts {
         if !self.corners.contains(&corner) {
             self.corners.push(corner);
         }
-        self.late += usize::from(!greatest.are_within(Limits::KEPT));
+        self.late += usize::from(!greatest.are_kept());
         self.at_both += usize::from(greatest == corner);
         Ok(())
     }

@@ -52,12 +52,13 @@ impl Pair {
             return Err(format!("{operation} is refused and changes the table"));
         }
         self.words.copy_from_slice(self.card.words());
+        self.watch.see(&self.segment);
+        self.claim().map_err(|side| format!("after {operation} the claim fails {side}, with {:?}", self.watch.greatest))?;
         self.look()?;
         if !self.card.guards_hold() {
             return Err(format!("{operation} writes beside the table"));
         }
-        self.watch.see(&self.segment);
-        self.claim().map_err(|side| format!("after {operation} the claim fails {side}, with {:?}", self.watch.greatest))
+        Ok(())
     }
 
     /// Whether the claim holds on either side, or the ages are greater than A.3 allows.

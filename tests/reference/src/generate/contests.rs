@@ -1,4 +1,4 @@
-//! Lists that keep given limits and mostly press against them: nodes test aliases that others use,
+//! Lists that keep given limits and mostly go up to them: nodes test aliases that others use,
 //! while frames stand and replies wait as long as they may.
 
 use crate::generate::prng::Prng;
@@ -16,7 +16,7 @@ pub fn temper(rng: &mut Prng, limits: Limits) -> Temper {
         return temper;
     }
     Temper {
-        pressing: true,
+        to_the_limits: true,
         nodes: rng.pick(&[2, 2, 3, 3, 4, 6]),
         tick_run: rng.pick(&[10, 20, 40]),
         weights: rng.pick(&[

@@ -21,7 +21,7 @@ pub struct Temper {
     /// The limits at which every age is ended at the latest, if there are any.
     pub limits: Option<Limits>,
     /// Whether tests go on at once, and ages mostly up to their limit.
-    pub pressing: bool,
+    pub to_the_limits: bool,
     /// About how many commands, and the longest run of ticks at once.
     pub commands: usize,
     pub tick_run: usize,
@@ -47,7 +47,7 @@ impl Temper {
             nodes,
             node_ids: node_ids(rng, nodes),
             limits: rng.percent(75).then_some(Limits::KEPT),
-            pressing: false,
+            to_the_limits: false,
             commands,
             tick_run: rng.pick(&[1, 5, 40, 41, 60]),
             weights,
@@ -233,7 +233,7 @@ impl<'a> Walker<'a> {
 
     fn ticks(&mut self) {
         for _ in 0..self.rng.between(1, self.temper.tick_run) {
-            if self.temper.pressing {
+            if self.temper.to_the_limits {
                 self.send_tests();
             }
             if let Some(limits) = self.temper.limits {
@@ -298,10 +298,11 @@ impl<'a> Walker<'a> {
             || segment.owed_age(place) == Some(limits.waiting)
     }
 
-    /// Sends a reply RID or an AMR. Under pressure a release drops some replies, and an AMR waits.
+    /// Sends a reply RID or an AMR. Up to the limits, a release drops some replies instead, and an
+    /// AMR waits.
     fn end_waiting(&mut self, index: u8) {
         let permitted = self.draft.state(index) == State::Permitted;
-        if permitted && self.temper.pressing && self.rng.percent(40) {
+        if permitted && self.temper.to_the_limits && self.rng.percent(40) {
             return self.push(Command::Release { index });
         }
         self.make_room();
