@@ -47,90 +47,44 @@ fn said<'a>(picture: &'a str, class: &str) -> Vec<&'a str> {
     said
 }
 
-/// A line of a drawing: its class, the text on it and its title.
-type Drawn = (&'static str, &'static str, &'static str);
-
-/// The examples just beyond request A.3, and their lines.
-const BEYOND: [(&str, [Drawn; 3]); 3] = [
-    (
-        "limits-68-65",
-        [
-            (
-                "stood",
-                "68 ticks",
-                "4 frames stood in the inbox of node 0 for 68 ticks, \
-                 from tick 201 (command 210) to tick 269 (command 285)",
-            ),
-            (
-                "waited",
-                "65 ticks",
-                "RID, alias 263, waited at node 0 for 65 ticks, \
-                 from tick 269 (command 282) to tick 334 (command 351)",
-            ),
-            (
-                "stood",
-                "68 ticks",
-                "RID, alias 263, from node 0, stood in the inbox of node 1 for 68 ticks, \
-                 from tick 334 (command 351) to the end",
-            ),
-        ],
-    ),
-    (
-        "limits-65-68",
-        [
-            (
-                "stood",
-                "65 ticks",
-                "4 frames stood in the inbox of node 0 for 65 ticks, \
-                 from tick 201 (command 210) to tick 266 (command 282)",
-            ),
-            (
-                "waited",
-                "68 ticks",
-                "RID, alias 263, waited at node 0 for 68 ticks, \
-                 from tick 266 (command 279) to tick 334 (command 351)",
-            ),
-            (
-                "waited",
-                "68 ticks",
-                "AMR, alias 263, Node ID 05.01.01.01.01.01, waited at node 0 for 68 ticks, \
-                 from tick 334 (command 351) to the end",
-            ),
-        ],
-    ),
-    (
-        "limits-67-67",
-        [
-            (
-                "stood",
-                "67 ticks",
-                "4 frames stood in the inbox of node 0 for 67 ticks, \
-                 from tick 201 (command 210) to tick 268 (command 284)",
-            ),
-            (
-                "waited",
-                "67 ticks",
-                "RID, alias 263, waited at node 0 for 67 ticks, \
-                 from tick 268 (command 281) to tick 335 (command 352)",
-            ),
-            (
-                "stood",
-                "67 ticks",
-                "RID, alias 263, from node 0, stood in the inbox of node 1 for 67 ticks, \
-                 from tick 335 (command 352) to the end",
-            ),
-        ],
-    ),
+/// The examples just beyond request A.3: how long the CIDs of node 1 stand and the reply to them waits, and then a frame for as long
+/// as the last number: the class of its line, and what it does.
+const BEYOND: [(&str, [usize; 3], &str, &str); 3] = [
+    ("limits-68-65", [68, 65, 68], "stood", REPLY_STOOD),
+    ("limits-65-68", [65, 68, 68], "waited", AMR_WAITED),
+    ("limits-67-67", [67, 67, 67], "stood", REPLY_STOOD),
 ];
+const REPLY_STOOD: &str = "RID, alias 263, from node 0, stood in the inbox of node 1";
+const AMR_WAITED: &str = "AMR, alias 263, Node ID 05.01.01.01.01.01, waited at node 0";
+
+/// The lines of such an example, each with its class, the text on it and its title. Node 1's CID 7 is command 210, at tick 201; the
+/// four are delivered one after another.
+fn beyond([stand, wait, again]: [usize; 3], class: &'static str, what: &str) -> [Drawn; 3] {
+    let (asked, left) = (201 + stand, 201 + stand + wait);
+    let (first, last, leaves) = (214 + stand, 217 + stand, 218 + stand + wait);
+    let line = |class, ticks, what: &str, way: String| {
+        (class, format!("{ticks} ticks"), format!("{what} for {ticks} ticks, from {way}"))
+    };
+    let stood = format!("tick 201 (command 210) to tick {asked} (command {last})");
+    let waited = format!("tick {asked} (command {first}) to tick {left} (command {leaves})");
+    [
+        line("stood", stand, "4 frames stood in the inbox of node 0", stood),
+        line("waited", wait, "RID, alias 263, waited at node 0", waited),
+        line(class, again, what, format!("tick {left} (command {leaves}) to the end")),
+    ]
+}
+
+type Drawn = (&'static str, String, String);
 
 /// Four CIDs that came and went together are one line.
 #[test]
 fn what_stood_and_waited_too_long_is_drawn() {
-    for (name, lines) in BEYOND {
-        let picture = drawn(&example(name));
+    for (name, ticks, last, what) in BEYOND {
+        let (picture, lines) = (drawn(&example(name)), beyond(ticks, last, what));
         for class in ["stood", "waited"] {
             let lines = lines.iter().filter(|line| line.0 == class);
-            let (written, titled): (Vec<_>, Vec<_>) = lines.map(|line| (line.1, line.2)).unzip();
+            let (written, titled): (Vec<_>, Vec<_>) =
+                lines.map(|line| (line.1.as_str(), line.2.as_str())).unzip();
             assert_eq!(said(&picture, class), titled, "{name}");
             assert_eq!(texts(&picture, &format!("{class}-text")), written, "{name}");
         }
@@ -141,7 +95,7 @@ fn what_stood_and_waited_too_long_is_drawn() {
 #[test]
 fn two_nodes_on_one_alias_are_marked() {
     let title = "nodes 0, 1 use alias 263 at tick 402 (command 420)";
-    for (name, _) in BEYOND {
+    for (name, ..) in BEYOND {
         let picture = drawn(&example(name));
         assert_eq!(
             titles(&picture, "shared"),
@@ -336,7 +290,7 @@ fn letters(picture: &str, class: &str) -> f64 {
 /// Texts of lines have letters as high as other small ones, and the white under them is as high.
 #[test]
 fn texts_of_lines_can_be_read() {
-    for (name, _) in BEYOND {
+    for (name, ..) in BEYOND {
         let picture = drawn(&example(name));
         let small = letters(&picture, "small");
         for class in LINES {

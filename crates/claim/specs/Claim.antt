@@ -277,6 +277,10 @@ module _ {cs : List Command} {xs : List A.Answer} {t : List ℕ} (r : Carried cs
   same-node : nodeAt t k ≡ run start cs .at k .node
   same-node = ap (λ (p : Place). p .node) same-place
 
+-- what A.3 allows stays below the wait
+pub below-wait : (i o : ℕ) → Allowed i o → (2 * i + o < wait) × (i + 2 * o < wait)
+below-wait i o h = (omega (arith, h .0), omega (arith, h .1))
+
 -- DEMAND 3, for any number of commands and any operands, equal Node IDs at two indexes included.
 pub claim : {cs : List Command} {xs : List A.Answer} {t : List ℕ} → Carried cs xs t → Claim cs xs t
 claim {cs} {xs} {t} r = record {
@@ -284,12 +288,12 @@ claim {cs} {xs} {t} r = record {
   nodes = λ k h. same-node r k h;
   inboxes = λ k h. ap (λ (p : Place). p .inbox) (same-place r k h);
   late = follows r .late;
-  single = λ i o h e. record {
-    one-user = λ p q hp hq ne u v x. single i o (omega (arith, h .0)) (omega (arith, h .1)) cs e p q hp hq ne
+  single = λ i o h e. let b = below-wait i o h in record {
+    one-user = λ p q hp hq ne u v x. single i o (b .0) (b .1) cs e p q hp hq ne
         (ap (λ (n : Node). uses (n .phase)) (sym (same-node r p hp)) ∙ u)
         (ap (λ (n : Node). uses (n .phase)) (sym (same-node r q hq)) ∙ v)
         (ap (λ (n : Node). n .alias .0) (sym (same-node r p hp)) ∙ x ∙ ap (λ (n : Node). n .alias .0) (same-node r q hq));
-    one-meaning = λ p q hp hq ne f g df dg x. one-meaning i o (omega (arith, h .0)) (omega (arith, h .1)) cs e p q hp hq ne f g
+    one-meaning = λ p q hp hq ne f g df dg x. one-meaning i o (b .0) (b .1) cs e p q hp hq ne f g
         (ap (dueOf wait) (sym (same-node r p hp)) ∙ df)
         (ap (dueOf wait) (sym (same-node r q hq)) ∙ dg)
         x;

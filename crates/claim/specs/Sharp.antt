@@ -8,7 +8,7 @@ use native.Mathlib.Omega.{arith}
 use lib.Dec.{ltb}
 use lib.ListN.{replicate}
 use borrow.Author.Tests.{ltb-true, ltb-false}
-use Rattle.headers.specs.Rules.{kindIn, mixed}
+use Rattle.headers.specs.Rules.{kindIn}
 use Rattle.node.specs.Rules.{
   wait,
   uses,
@@ -20,24 +20,17 @@ use Rattle.node.specs.Rules.{
   cidFrame,
   ridFrame,
   amdFrame,
-  amrFrame,
-  isOwn,
   firstWaiting,
   dueOf,
   tickOf,
   sentPermitted,
   sentOf,
   sameAlias,
-  addressed,
-  otherAlias,
   received,
-  used,
   onPowerOn,
   onLeave,
-  hostOrders,
   onRelease,
 }
-use Rattle.node.specs.declared.Node.{Node}
 use Rattle.segment_rules.specs.Rules.{
   places,
   start,
@@ -55,7 +48,7 @@ use Rattle.segment_rules.specs.Rules.{
   isKept,
 }
 use Rattle.claim.specs.Single.{single}
-use Rattle.claim.specs.Claim.{mostSum, Allowed, kept-more}
+use Rattle.claim.specs.Claim.{mostSum, Allowed, kept-more, below-wait}
 
 -- No two nodes use one alias, after every list within these limits.
 abbrev pub Safe : (i o : ℕ) → Type 0
@@ -95,7 +88,7 @@ lateAmr i o again = asked i o ++ release 0 ∷ replicate again tick ++ send 1 �
 pub broken :
     Broken 68 65 (lateReply 68 65 68) × Broken 65 68 (lateAmr 65 68 68) × Broken 67 67 (lateReply 67 67 67)
     × Broken 101 0 (lateReply 101 0 100) × Broken 100 1 (lateReply 100 1 100) × Broken 0 101 (lateAmr 0 101 100) × Broken 1 100 (lateAmr 1 100 100)
-unfolding run roomBut old kept offNode fresh moved counted waits cidFrame ridFrame amdFrame amrFrame isOwn firstWaiting dueOf tickOf sentPermitted sentOf sameAlias addressed otherAlias received used onPowerOn onLeave hostOrders onRelease kindIn mixed
+unfolding run roomBut old kept offNode fresh moved counted waits cidFrame ridFrame amdFrame firstWaiting dueOf tickOf sentPermitted sentOf sameAlias received onPowerOn onLeave onRelease kindIn
 broken = (
   record { within = refl; alias = 0x263; first = (refl, refl); second = (refl, refl) },
   record { within = refl; alias = 0x263; first = (refl, refl); second = (refl, refl) },
@@ -116,7 +109,7 @@ not-safe i o i′ o′ {cs} b hi ho safe =
 
 -- What A.3 allows is safe, and neither of its sums may be more than 200.
 pub safe : (i o : ℕ) → Allowed i o → Safe i o
-safe i o h cs e p q hp hq ne = single i o (omega (arith, h .0)) (omega (arith, h .1)) cs e p q hp hq ne
+safe i o h = let b = below-wait i o h in single i o (b .0) (b .1)
 
 pub no-looser : (a b : ℕ) → mostSum ≤ a → mostSum ≤ b → ((i o : ℕ) → 2 * i + o ≤ a → i + 2 * o ≤ b → Safe i o) → (a ≡ mostSum) × (b ≡ mostSum)
 no-looser a b ha hb all = (
