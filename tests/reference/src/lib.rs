@@ -1,4 +1,4 @@
-//! Another implementation of document 01, with requests A.1 to A.3 of document 02, without proofs: the
+//! Another implementation of document 01, with requests A.1 to A.4 of document 02, without proofs: the
 //! peer for tests and for speed.
 
 pub mod alias;
@@ -22,7 +22,7 @@ pub use command::{whole_commands, Answer, Command};
 pub use frame::Frame;
 pub use limits::Limits;
 pub use link::Link;
-pub use map::AliasMap;
+pub use map::{AliasMap, Found};
 pub use node::{Node, State};
 pub use refusal::Refusal;
 pub use script::{run, run_program};

@@ -11,6 +11,14 @@ pub struct Entry {
     pub id: u64,
 }
 
+/// What a look-up found, and how many entries it compared: the hit's place from the oldest, which
+/// is 1.
+#[derive(Clone, Copy, Debug, PartialEq, Eq)]
+pub struct Found<T> {
+    pub value: T,
+    pub compared: usize,
+}
+
 #[derive(Clone, Debug)]
 pub struct AliasMap {
     entries: [Entry; AliasMap::ROOM],
@@ -79,15 +87,24 @@ impl AliasMap {
     }
 
     /// The Node ID of an alias; 13 if absent.
-    pub fn node_id_of(&self, alias: Alias) -> Result<u64, Refusal> {
-        let hit = self.entries().iter().find(|entry| entry.alias == alias);
-        hit.map(|entry| entry.id).ok_or(Refusal::Absent)
+    pub fn node_id_of(&self, alias: Alias) -> Result<Found<u64>, Refusal> {
+        self.look_up(|entry| entry.alias == alias, |entry| entry.id)
     }
 
     /// The alias of a Node ID; 13 if absent.
-    pub fn alias_of(&self, id: u64) -> Result<Alias, Refusal> {
-        let hit = self.entries().iter().find(|entry| entry.id == id);
-        hit.map(|entry| entry.alias).ok_or(Refusal::Absent)
+    pub fn alias_of(&self, id: u64) -> Result<Found<Alias>, Refusal> {
+        self.look_up(|entry| entry.id == id, |entry| entry.alias)
+    }
+
+    /// Compares entries from the oldest on and ends at the first hit.
+    fn look_up<T>(
+        &self,
+        is_hit: impl Fn(&Entry) -> bool,
+        value: impl FnOnce(&Entry) -> T,
+    ) -> Result<Found<T>, Refusal> {
+        let entries = self.entries();
+        let older = entries.iter().position(is_hit).ok_or(Refusal::Absent)?;
+        Ok(Found { value: value(&entries[older]), compared: older + 1 })
     }
 }
 

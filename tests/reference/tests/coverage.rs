@@ -4,10 +4,12 @@
 use reference::generate::corpus;
 use reference::generate::coverage::{in_scripts, Coverage, Event, Row};
 use reference::generate::link_lists;
+use reference::generate::look_ups::{Followed, Gone, Outcome};
 use reference::generate::map_corpus::{self, MapRule};
 use reference::generate::marks::Mark;
 use reference::generate::prng::Prng;
 use reference::generate::walker::{walk, walk_list, Temper};
+use reference::{Alias, AliasMap, Frame};
 
 #[test]
 fn corpus_of_scripts_is_complete() {
@@ -91,4 +93,50 @@ fn corpus_of_the_map_is_complete() {
     let (input, output) = map_corpus::files(&ops);
     assert!(input.len() <= 60_000);
     assert_eq!(output.iter().filter(|&&byte| byte == b'\n').count(), ops.len());
+}
+
+/// The map after these notes, followed from one to the next: AMDs of an alias and a Node ID, AMRs
+/// where the Node ID is 0.
+fn followed(notes: &[(u32, u64)]) -> Followed {
+    let (mut map, mut followed) = (AliasMap::new(), Followed::default());
+    for &(alias, id) in notes {
+        let header = if id == 0 { 0x1070_3000 } else { 0x1070_1000 } | alias;
+        map.note(&Frame::with_node_id(header, id)).expect("room");
+        followed.follow(&map);
+    }
+    followed
+}
+
+#[test]
+fn an_entry_comes_nearer_by_what_becomes_of_older_ones() {
+    let three = [(1, 1), (2, 2), (3, 3)];
+    let outcomes = |more: &[(u32, u64)], alias| {
+        let followed = followed(&[&three[..], more].concat());
+        followed.outcomes(|entry| entry.alias == Alias(alias))
+    };
+    let hit = |oldest, newest| Outcome::Hit { oldest, newest };
+    assert_eq!(outcomes(&[], 2), [hit(false, false)]);
+    assert_eq!(outcomes(&[(1, 0)], 2), [hit(true, false), Outcome::Nearer(Gone::Removed)]);
+    assert_eq!(outcomes(&[(1, 1)], 2), [hit(true, false), Outcome::Nearer(Gone::MovedLast)]);
+    assert_eq!(outcomes(&[(1, 9)], 3), [hit(false, false), Outcome::Nearer(Gone::Replaced)]);
+    assert_eq!(outcomes(&[(3, 1)], 2), [hit(true, false), Outcome::Nearer(Gone::Replaced)]);
+    assert_eq!(outcomes(&[(1, 0), (2, 2)], 3), [hit(true, false)], "by two ways");
+    assert_eq!(outcomes(&[(1, 0), (2, 2)], 2), [hit(false, true)], "it is the last again");
+    assert_eq!(outcomes(&[(3, 0)], 2), [hit(false, true)], "only a newer one has gone");
+    assert_eq!(outcomes(&[(4, 4)], 1), [hit(true, false)], "none has gone");
+    assert_eq!(outcomes(&[(3, 0)], 3), [Outcome::Absent { empty: false, full: false }]);
+}
+
+#[test]
+fn look_ups_in_full_and_empty_maps_are_told() {
+    let full: Vec<_> = (1..=64).map(|n| (n, u64::from(n))).collect();
+    let full = followed(&full);
+    let empty = followed(&[(1, 1), (1, 0)]);
+    for place in 1..=64 {
+        let hit = Outcome::Hit { oldest: place == 1, newest: place == 64 };
+        let outcomes = full.outcomes(|entry| entry.id == place as u64);
+        assert_eq!(outcomes, [hit, Outcome::HitInFull(place)]);
+    }
+    assert_eq!(full.outcomes(|_| false), [Outcome::Absent { empty: false, full: true }]);
+    assert_eq!(empty.outcomes(|_| true), [Outcome::Absent { empty: true, full: false }]);
 }

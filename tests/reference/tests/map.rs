@@ -1,7 +1,8 @@
 //! The map of foreign aliases.
 
+use reference::generate::map_corpus::MapOp;
 use reference::map::Entry;
-use reference::{Alias, AliasMap, Frame, Refusal};
+use reference::{Alias, AliasMap, Found, Frame, Refusal};
 
 fn amd(alias: u32, id: u64) -> Frame {
     Frame::with_node_id(0x1070_1000 | alias, id)
@@ -23,14 +24,102 @@ fn map_of(count: u32) -> AliasMap {
     map
 }
 
+fn found<T>(value: T, compared: usize) -> Result<Found<T>, Refusal> {
+    Ok(Found { value, compared })
+}
+
+/// The map has these entries, and looking each up, either way, compares as many as its place says.
+fn assert_places(map: &AliasMap, entries: &[Entry]) {
+    assert_eq!(map.entries(), entries);
+    for (entry, place) in entries.iter().zip(1..) {
+        assert_eq!(map.node_id_of(entry.alias), found(entry.id, place));
+        assert_eq!(map.alias_of(entry.id), found(entry.alias, place));
+    }
+}
+
 #[test]
 fn looks_up_either_way() {
     let map = map_of(64);
-    assert_eq!(map.node_id_of(Alias(64)), Ok(164));
-    assert_eq!(map.alias_of(101), Ok(Alias(1)));
+    assert_eq!(map.node_id_of(Alias(64)), found(164, 64));
+    assert_eq!(map.alias_of(101), found(Alias(1), 1));
     assert_eq!(map.node_id_of(Alias(65)), Err(Refusal::Absent));
     assert_eq!(map.node_id_of(Alias(0x1001)), Err(Refusal::Absent));
     assert_eq!(map.alias_of(0), Err(Refusal::Absent));
+}
+
+#[test]
+fn a_hit_in_a_map_of_one_compares_one() {
+    let map = map_of(1);
+    assert_eq!(map.node_id_of(Alias(1)), found(101, 1));
+    assert_eq!(map.alias_of(101), found(Alias(1), 1));
+}
+
+#[test]
+fn a_hit_at_each_place_of_a_full_map_compares_as_many() {
+    let map = map_of(64);
+    for n in 1..=64 {
+        assert_eq!(map.node_id_of(Alias(n)), found(100 + u64::from(n), n.into()));
+        assert_eq!(map.alias_of(100 + u64::from(n)), found(Alias(n), n.into()));
+    }
+}
+
+#[test]
+fn what_is_absent_has_no_count() {
+    for map in [0, 1, 10, 64].map(map_of) {
+        assert_eq!(map.node_id_of(Alias(0xFFF)), Err(Refusal::Absent));
+        assert_eq!(map.alias_of(99), Err(Refusal::Absent));
+    }
+}
+
+#[test]
+fn the_corpus_has_the_count_after_what_was_found() {
+    let mut map = map_of(64);
+    let mut line = |op: MapOp| op.answer(&mut map);
+    assert_eq!(line(MapOp::ByAlias(1)), "ok 000000000065 1");
+    assert_eq!(line(MapOp::ByAlias(64)), "ok 0000000000A4 64");
+    assert_eq!(line(MapOp::ByNodeId(110)), "ok 00A 10");
+    assert_eq!(line(MapOp::ByAlias(65)), "refused 13");
+    assert_eq!(line(MapOp::ByNodeId(165)), "refused 13");
+    assert_eq!(line(MapOp::Note(amr(9))), "ok");
+    assert_eq!(line(MapOp::ByNodeId(110)), "ok 00A 9");
+}
+
+#[test]
+fn entries_after_a_removed_one_come_nearer() {
+    let mut map = map_of(6);
+    map.note(&amr(1)).unwrap();
+    map.note(&amr(4)).unwrap();
+    assert_places(&map, &[entry(2, 102), entry(3, 103), entry(5, 105), entry(6, 106)]);
+    map.note(&amr(6)).unwrap();
+    assert_places(&map, &[entry(2, 102), entry(3, 103), entry(5, 105)]);
+    assert_eq!(map.node_id_of(Alias(4)), Err(Refusal::Absent));
+    assert_eq!(map.alias_of(104), Err(Refusal::Absent));
+}
+
+#[test]
+fn entries_after_a_renewed_or_replaced_one_come_nearer() {
+    let mut map = map_of(4);
+    map.note(&amd(2, 102)).unwrap();
+    assert_places(&map, &[entry(1, 101), entry(3, 103), entry(4, 104), entry(2, 102)]);
+    map.note(&amd(1, 999)).unwrap();
+    assert_places(&map, &[entry(3, 103), entry(4, 104), entry(2, 102), entry(1, 999)]);
+    map.note(&amd(3, 102)).unwrap();
+    assert_places(&map, &[entry(4, 104), entry(1, 999), entry(3, 102)]);
+}
+
+#[test]
+fn a_refused_note_changes_no_count() {
+    let mut map = map_of(64);
+    let before = map.entries().to_vec();
+    let refused = [
+        (amd(65, 165), Refusal::MapFull),
+        (Frame { len: 9, ..amd(1, 101) }, Refusal::Malformed),
+        (Frame { kind: 3, ..amr(1) }, Refusal::Malformed),
+    ];
+    for (frame, refusal) in refused {
+        assert_eq!(map.note(&frame), Err(refusal));
+        assert_places(&map, &before);
+    }
 }
 
 #[test]

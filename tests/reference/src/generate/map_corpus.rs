@@ -4,6 +4,7 @@ use std::collections::BTreeSet;
 
 use crate::alias::Alias;
 use crate::frame::{Frame, ELEVEN_BIT, EXTENDED, REMOTE};
+use crate::generate::look_ups::{Followed, Outcome, Way};
 use crate::generate::marks::{why_malformed, Malformed};
 use crate::generate::prng::Prng;
 use crate::header::{self, Kind, AMD, AME, AMR, RESERVED_BIT, RID, TYPE_BIT};
@@ -43,9 +44,13 @@ impl MapOp {
         let answer = match self {
             MapOp::Note(frame) => map.note(frame).map(|()| "ok".to_string()),
             MapOp::ByAlias(alias) => {
-                map.node_id_of(Alias(*alias)).map(|id| format!("ok {id:012X}"))
+                let found = map.node_id_of(Alias(*alias));
+                found.map(|hit| format!("ok {:012X} {}", hit.value, hit.compared))
             }
-            MapOp::ByNodeId(id) => map.alias_of(*id).map(|alias| format!("ok {:03X}", alias.0)),
+            MapOp::ByNodeId(id) => {
+                let found = map.alias_of(*id);
+                found.map(|hit| format!("ok {:03X} {}", hit.value.0, hit.compared))
+            }
             MapOp::New => {
                 *map = AliasMap::new();
                 Ok("new".to_string())
@@ -80,6 +85,8 @@ pub fn ops(seed: u64) -> Vec<MapOp> {
         by_chance(&mut ops, &mut rng, pool);
         ops.push(MapOp::New);
     }
+    none_or_one(&mut ops);
+    ops.push(MapOp::New);
     ops
 }
 
@@ -207,6 +214,18 @@ fn by_chance(ops: &mut Vec<MapOp>, rng: &mut Prng, pool: usize) {
     }
 }
 
+/// Looks up either way in an empty map, with one entry, with two, with the second alone, and with
+/// none again.
+fn none_or_one(ops: &mut Vec<MapOp>) {
+    let aliases = [1, 2].map(MapOp::ByAlias);
+    let ids = [BASE + 1, BASE + 2].map(MapOp::ByNodeId);
+    ops.extend(aliases.into_iter().chain(ids));
+    for note in [amd(1, BASE + 1), amd(2, BASE + 2), amr(1, BASE + 1), amr(2, BASE + 2)] {
+        ops.push(note);
+        ops.extend(aliases.into_iter().chain(ids));
+    }
+}
+
 /// What a corpus of the map must meet.
 #[derive(Clone, Copy, Debug, PartialEq, Eq, PartialOrd, Ord)]
 pub enum MapRule {
@@ -238,11 +257,9 @@ pub enum MapRule {
     Message(u16),
     Other(u8),
     ElevenBit,
-    AliasFound,
-    AliasAbsent,
+    LookUp(Way, Outcome),
+    /// The low 12 bits are an alias of the map.
     AliasHigh,
-    NodeIdFound,
-    NodeIdAbsent,
 }
 
 impl MapRule {
@@ -258,7 +275,10 @@ impl MapRule {
         rules.extend([0, 1, 2, 3, 4, 5, 7, 8].map(AmdLen));
         rules.extend([AmdAliasZero, AmdNodeIdZero, AmdBit28Clear, Message(AMD), Message(AMR)]);
         rules.extend([0, 1, 2, 3, 4].map(Other));
-        rules.extend([ElevenBit, AliasFound, AliasAbsent, AliasHigh, NodeIdFound, NodeIdAbsent]);
+        rules.extend([ElevenBit, AliasHigh]);
+        for way in Way::ALL {
+            rules.extend(Outcome::all().into_iter().map(|outcome| LookUp(way, outcome)));
+        }
         rules.extend(Malformed::ALL.map(MapRule::Refused9));
         rules
     }
@@ -267,26 +287,35 @@ impl MapRule {
 /// The rules that these operations meet.
 pub fn rules_met(ops: &[MapOp]) -> BTreeSet<MapRule> {
     let mut met = BTreeSet::new();
-    let mut map = AliasMap::new();
+    let (mut map, mut followed) = (AliasMap::new(), Followed::default());
     for op in ops {
         match op {
             MapOp::Note(frame) => note_rules(&map, frame, &mut met),
             MapOp::ByAlias(alias) => {
-                let found = map.node_id_of(Alias(*alias)).is_ok();
-                met.insert(if found { MapRule::AliasFound } else { MapRule::AliasAbsent });
+                let is_hit = |entry: &Entry| entry.alias.0 == *alias;
+                met.extend(look_up_rules(&followed, Way::ByAlias, is_hit));
                 if *alias > 0xFFF && map.node_id_of(Alias(alias & 0xFFF)).is_ok() {
                     met.insert(MapRule::AliasHigh);
                 }
             }
             MapOp::ByNodeId(id) => {
-                let found = map.alias_of(*id).is_ok();
-                met.insert(if found { MapRule::NodeIdFound } else { MapRule::NodeIdAbsent });
+                let is_hit = |entry: &Entry| entry.id == *id;
+                met.extend(look_up_rules(&followed, Way::ByNodeId, is_hit));
             }
             MapOp::New => {}
         }
         op.answer(&mut map);
+        followed.follow(&map);
     }
     met
+}
+
+fn look_up_rules(
+    followed: &Followed,
+    way: Way,
+    is_hit: impl Fn(&Entry) -> bool,
+) -> impl Iterator<Item = MapRule> {
+    followed.outcomes(is_hit).into_iter().map(move |outcome| MapRule::LookUp(way, outcome))
 }
 
 fn note_rules(map: &AliasMap, frame: &Frame, met: &mut BTreeSet<MapRule>) {

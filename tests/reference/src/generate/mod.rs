@@ -8,6 +8,7 @@ pub mod draft;
 pub mod filler;
 pub mod link_lists;
 pub mod link_marks;
+pub mod look_ups;
 pub mod map_corpus;
 pub mod marks;
 pub mod prng;
