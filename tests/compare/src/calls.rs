@@ -33,11 +33,12 @@ fn full() -> (ProvedMap, AliasMap) {
     (proved, plain)
 }
 
-/// As the call for C has it: the answer is 0 or the refusal's number, and what was found goes into a word that is lent.
-fn as_for_c(answer: Result<u64, Refusal>, found: &mut [u64; 1]) -> u64 {
+/// As the call for C has it: the answer is 0 or the refusal's number; what was found, and how many entries were compared, go into
+/// two words that are lent.
+fn as_for_c(answer: Result<[u64; 2], Refusal>, found: &mut [u64; 2]) -> u64 {
     match answer {
-        Ok(value) => {
-            *found = [value];
+        Ok(words) => {
+            *found = words;
             0
         }
         Err(refusal) => refusal.number().into(),
@@ -45,13 +46,13 @@ fn as_for_c(answer: Result<u64, Refusal>, found: &mut [u64; 1]) -> u64 {
 }
 
 #[inline(never)]
-fn plain_id_of(map: &AliasMap, alias: u16, found: &mut [u64; 1]) -> u64 {
-    as_for_c(map.node_id_of(Alias(alias)), found)
+fn plain_id_of(map: &AliasMap, alias: u16, found: &mut [u64; 2]) -> u64 {
+    as_for_c(map.node_id_of(Alias(alias)).map(|hit| [hit.value, hit.compared as u64]), found)
 }
 
 #[inline(never)]
-fn plain_alias_of(map: &AliasMap, id: u64, found: &mut [u64; 1]) -> u64 {
-    as_for_c(map.alias_of(id).map(|alias| alias.0.into()), found)
+fn plain_alias_of(map: &AliasMap, id: u64, found: &mut [u64; 2]) -> u64 {
+    as_for_c(map.alias_of(id).map(|hit| [hit.value.0.into(), hit.compared as u64]), found)
 }
 
 #[inline(never)]
@@ -64,18 +65,18 @@ fn plain_read(header: u32) -> Result<(Header, Kind), Refusal> {
     header::read(header).map(|parts| (parts, parts.kind()))
 }
 
-/// Looking `key` up in a full map, which gives `value`, or 13 where there is none.
+/// Looking `key` up in a full map, which gives these two words, or 13 where there are none.
 fn looking_up<K: Copy + 'static>(
     name: &'static str,
-    (key, value): (K, Option<u64>),
-    proved_call: impl Fn(&ProvedMap, K, &mut [u64; 1]) -> u64 + 'static,
-    plain_call: impl Fn(&AliasMap, K, &mut [u64; 1]) -> u64 + 'static,
+    (key, words): (K, Option<[u64; 2]>),
+    proved_call: impl Fn(&ProvedMap, K, &mut [u64; 2]) -> u64 + 'static,
+    plain_call: impl Fn(&AliasMap, K, &mut [u64; 2]) -> u64 + 'static,
 ) -> Row {
     let (proved, plain) = full();
-    let (mut found, mut plain_found) = ([0], [0]);
-    let answer = if value.is_some() { 0 } else { 13 };
-    assert_eq!((proved_call(&proved, key, &mut found), found[0]), (answer, value.unwrap_or(0)));
-    assert_eq!((plain_call(&plain, key, &mut plain_found), plain_found), (answer, found));
+    let (mut found, mut plain_found) = ([0; 2], [0; 2]);
+    let answer = words.map_or((13, [0; 2]), |words| (0, words));
+    assert_eq!((proved_call(&proved, key, &mut found), found), answer);
+    assert_eq!((plain_call(&plain, key, &mut plain_found), plain_found), answer);
     Row {
         name,
         proved: Box::new(move |_| {
@@ -87,14 +88,19 @@ fn looking_up<K: Copy + 'static>(
     }
 }
 
+/// What looking up the entry with this number gives in a full map: this value, and its place from the oldest, which is 1.
+fn at_its_place(number: u64, value: u64) -> Option<[u64; 2]> {
+    (number < 64).then_some([value, number + 1])
+}
+
 fn by_alias(name: &'static str, number: u64) -> Row {
     let (alias, id) = entry(number);
-    looking_up(name, (alias, (number < 64).then_some(id)), ProvedMap::id_of, plain_id_of)
+    looking_up(name, (alias, at_its_place(number, id)), ProvedMap::id_of, plain_id_of)
 }
 
 fn by_id(name: &'static str, number: u64) -> Row {
     let (alias, id) = entry(number);
-    looking_up(name, (id, (number < 64).then_some(alias.into())), ProvedMap::alias_of, plain_alias_of)
+    looking_up(name, (id, at_its_place(number, alias.into())), ProvedMap::alias_of, plain_alias_of)
 }
 
 /// AMDs noted in a full map, `answered` so each time: those of the entries from `first` on, again and again.
@@ -129,16 +135,15 @@ fn reading() -> Row {
     }
 }
 
-pub fn rows() -> Vec<Row> {
-    vec![
-        by_alias("map, first alias", 0),
-        by_alias("map, last alias", 63),
-        by_alias("map, absent alias", 64),
-        by_id("map, first Node ID", 0),
-        by_id("map, last Node ID", 63),
-        by_id("map, absent Node ID", 64),
-        noting("full map, oldest renewed", 0, 0),
-        noting("full map, refused by 12", 64, 12),
-        reading(),
+/// Looking up in a full map, each way: its first entry, its last, and one that is absent.
+pub fn look_ups() -> [[Row; 3]; 2] {
+    [
+        [by_alias("map, first alias", 0), by_alias("map, last alias", 63), by_alias("map, absent alias", 64)],
+        [by_id("map, first Node ID", 0), by_id("map, last Node ID", 63), by_id("map, absent Node ID", 64)],
     ]
+}
+
+/// All other calls.
+pub fn others() -> [Row; 3] {
+    [noting("full map, oldest renewed", 0, 0), noting("full map, refused by 12", 64, 12), reading()]
 }

@@ -154,11 +154,13 @@ impl ProvedMap {
         unsafe { map_note(self.words.words_mut().as_mut_ptr(), kind, header, len, bytes) }
     }
 
-    pub fn id_of(&self, alias: u16, found: &mut [u64; 1]) -> u64 {
+    /// Node ID, entries compared.
+    pub fn id_of(&self, alias: u16, found: &mut [u64; 2]) -> u64 {
         unsafe { map_id_of(self.words().as_ptr(), alias, found.as_mut_ptr()) }
     }
 
-    pub fn alias_of(&self, id: u64, found: &mut [u64; 1]) -> u64 {
+    /// Alias, entries compared.
+    pub fn alias_of(&self, id: u64, found: &mut [u64; 2]) -> u64 {
         unsafe { map_alias_of(self.words().as_ptr(), id, found.as_mut_ptr()) }
     }
 }

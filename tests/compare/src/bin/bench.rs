@@ -14,10 +14,39 @@ fn main() {
     let repeats = setting("REPEATS", 1, 101);
     scripts(repeats);
     println!();
+    single_calls(repeats);
+}
+
+fn single_calls(repeats: u64) {
     println!("{:<28} {:>12} {:>12} {:>6}", "call", "proved", "plain Rust", "ratio");
-    for row in &mut calls::rows() {
-        let (proved, plain) = measure_calls(row, repeats);
-        println!("{:<28} {proved:>9.2} ns {plain:>9.2} ns {:>6.2}", row.name, proved / plain);
+    let look_ups = calls::look_ups().map(|rows| rows.map(|row| Timed::print(row, repeats)));
+    for row in calls::others() {
+        Timed::print(row, repeats);
+    }
+    println!();
+    println!("A look-up in a full map takes so many times as long as that of its first entry:");
+    println!("{:<28} {:>12} {:>12}", "", "proved", "plain Rust");
+    for [first, last, absent] in look_ups {
+        for other in [last, absent] {
+            println!("{:<28} {:>12.1} {:>12.1}", other.name, other.proved / first.proved, other.plain / first.plain);
+        }
+    }
+}
+
+/// The median times of a call, in nanoseconds.
+struct Timed {
+    name: &'static str,
+    proved: f64,
+    plain: f64,
+}
+
+impl Timed {
+    /// Times a call and prints its line.
+    fn print(mut row: Row, repeats: u64) -> Timed {
+        let name = row.name;
+        let (proved, plain) = measure_calls(&mut row, repeats);
+        println!("{name:<28} {proved:>9.2} ns {plain:>9.2} ns {:>6.2}", proved / plain);
+        Timed { name, proved, plain }
     }
 }
 

@@ -3,7 +3,7 @@
 //! link orders, which meet the rest too, then lists at random corners of A.3, then others by chance. Then headers, aliases and the
 //! map. SEED may be given.
 
-use compare::operations::map::{self, Counts};
+use compare::operations::map::{self, Counts, LookUps};
 use compare::operations::operation::Operation;
 use compare::operations::{corners, cover, headers, list, pair};
 use compare::setting::{fresh_seed, setting};
@@ -128,13 +128,25 @@ fn compare_maps(seed: u64) {
             report(&notes, &format!("made by SEED={seed}"), &what, "map_new(map);", differs);
         }
     }
-    let Counts { notes, malformed, full, look_ups, found } = counts;
-    if malformed.min(full).min(found) == 0 {
-        fail("the notes never met 9, 12 or an entry");
+    end_maps(&counts);
+}
+
+fn end_maps(counts: &Counts) {
+    let Counts { notes, malformed, full, by_alias, by_id } = counts;
+    if *malformed == 0 || *full == 0 {
+        fail("the notes never met 9 or 12");
     }
     println!(
-        "operations: {notes} notes agree, {malformed} refused by 9, {full} by 12; and {look_ups} look-ups, {found} of them found"
+        "operations: {notes} notes agree, {malformed} refused by 9, {full} by 12; after each, look-ups agree in what they find \
+         and in how many entries they compare:"
     );
+    for (way, look_ups) in [("alias", by_alias), ("Node ID", by_id)] {
+        let LookUps { done, found, places } = look_ups;
+        println!("operations: {done} by {way}, {found} of them found, at {} different places", places.len());
+        if !look_ups.hit_everywhere() {
+            fail(&format!("look-ups by {way} hit only at the places {places:?}"));
+        }
+    }
 }
 
 fn fail(what: &str) -> ! {

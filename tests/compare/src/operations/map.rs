@@ -1,9 +1,10 @@
 //! The map: frames noted by chance, and after each every look-up that can find something, and some that cannot.
 
-use super::{answered, put_out, same};
+use super::{answered, put_out, same, Answered};
 use crate::card::ProvedMap;
 use reference::generate::prng::Prng;
 use reference::{Alias, AliasMap, Frame, Refusal};
+use std::collections::BTreeSet;
 use std::fmt;
 
 /// A frame to be noted.
@@ -31,8 +32,32 @@ pub struct Counts {
     pub notes: usize,
     pub malformed: usize,
     pub full: usize,
-    pub look_ups: usize,
+    pub by_alias: LookUps,
+    pub by_id: LookUps,
+}
+
+/// Look-ups one way: how many, how many of them found, and at which places, the oldest at 1.
+#[derive(Default)]
+pub struct LookUps {
+    pub done: usize,
     pub found: usize,
+    pub places: BTreeSet<u64>,
+}
+
+impl LookUps {
+    /// Adds a look-up on which both sides agree.
+    fn add(&mut self, (code, [_, compared]): Answered<2>) {
+        self.done += 1;
+        if code == 0 {
+            self.found += 1;
+            self.places.insert(compared);
+        }
+    }
+
+    /// Whether every place of the map was hit, and no other.
+    pub fn hit_everywhere(&self) -> bool {
+        self.places.iter().copied().eq(1..=AliasMap::ROOM as u64)
+    }
 }
 
 /// Notes by chance: AMDs of an alias with its own Node ID or with another's, AMRs, and frames of any sort.
@@ -87,21 +112,16 @@ fn look_ups(proved: &ProvedMap, plain: &AliasMap, note: &Note, counts: &mut Coun
     let aliases = (0..FEW as u16).chain([note.header as u16 & 0xFFF, note.header as u16, 0xFFF, 0x1000, u16::MAX]);
     for alias in aliases {
         let found = put_out(|found| proved.id_of(alias, found));
-        same(
-            || format!("after {note} map_id_of(map, 0x{alias:03X}, found)"),
-            found,
-            answered(plain.node_id_of(Alias(alias)), |id| [id]),
-        )?;
-        counts.look_ups += 1;
-        counts.found += usize::from(found.0 == 0);
+        let expected = answered(plain.node_id_of(Alias(alias)), |hit| [hit.value, hit.compared as u64]);
+        same(|| format!("after {note} map_id_of(map, 0x{alias:03X}, found)"), found, expected)?;
+        counts.by_alias.add(found);
     }
     let ids = (0..FEW as u64).chain([note.bytes >> 16, note.bytes, 1 << 48, u64::MAX]);
     for id in ids {
         let found = put_out(|found| proved.alias_of(id, found));
-        let expected = answered(plain.alias_of(id), |Alias(alias)| [alias.into()]);
+        let expected = answered(plain.alias_of(id), |hit| [hit.value.0.into(), hit.compared as u64]);
         same(|| format!("after {note} map_alias_of(map, 0x{id:X}, found)"), found, expected)?;
-        counts.look_ups += 1;
-        counts.found += usize::from(found.0 == 0);
+        counts.by_id.add(found);
     }
     Ok(())
 }
@@ -109,6 +129,7 @@ fn look_ups(proved: &ProvedMap, plain: &AliasMap, note: &Note, counts: &mut Coun
 #[cfg(test)]
 mod tests {
     use super::*;
+    use crate::card::MARK;
 
     const NOTE: Note = Note { kind: 0, header: 0x1070_1007, len: 6, bytes: 9 << 16 };
 
@@ -122,12 +143,40 @@ mod tests {
         assert_eq!(look_ups(&proved, &plain, &NOTE, &mut Counts::default()), Ok(()));
     }
 
+    /// The same entries in another order: they are found on both sides, after other numbers of entries.
     #[test]
-    fn notes_fill_the_map() {
+    fn what_only_differs_by_its_place_is_found() {
+        let other = Note { header: NOTE.header + 1, bytes: 10 << 16, ..NOTE };
+        let (mut proved, mut plain) = (ProvedMap::new(), AliasMap::new());
+        for (first, second) in [(NOTE, other), (other, NOTE)] {
+            assert_eq!(proved.note(first.kind, first.header, first.len, first.bytes), 0);
+            plain.note(&Frame::with_node_id(second.header, second.bytes >> 16)).expect("room");
+        }
+        let what = look_ups(&proved, &plain, &NOTE, &mut Counts::default()).expect_err("the counts differ");
+        assert!(what.ends_with("map_id_of(map, 0x007, found): proved (0, [9, 1]), plain Rust (0, [9, 2])"), "{what}");
+    }
+
+    #[test]
+    fn notes_fill_the_map_and_look_ups_hit_everywhere() {
         let mut counts = Counts::default();
         for seed in 0..20 {
             compare(&notes(&mut Prng::new(seed), 400), &mut counts).expect("both sides agree");
         }
-        assert!(counts.full > 20 && counts.malformed > 20 && counts.found > 20);
+        assert!(counts.full > 20 && counts.malformed > 20);
+        for look_ups in [&counts.by_alias, &counts.by_id] {
+            assert!(look_ups.hit_everywhere(), "hits at {:?}", look_ups.places);
+            assert!(look_ups.done > look_ups.found && look_ups.found > 64);
+        }
+    }
+
+    #[test]
+    fn a_place_that_was_never_hit_is_missed() {
+        let mut look_ups = LookUps::default();
+        (1..64).for_each(|place| look_ups.add((0, [7, place])));
+        look_ups.add((13, [MARK, MARK]));
+        assert!(!look_ups.hit_everywhere());
+        look_ups.add((0, [7, 64]));
+        assert!(look_ups.hit_everywhere());
+        assert_eq!((look_ups.done, look_ups.found), (65, 64));
     }
 }
