@@ -1,6 +1,7 @@
 //! The map of foreign aliases.
 
-use reference::generate::map_corpus::MapOp;
+use reference::generate::corpus;
+use reference::generate::map_corpus::{self, MapOp};
 use reference::map::Entry;
 use reference::{Alias, AliasMap, Found, Frame, Refusal};
 
@@ -82,6 +83,19 @@ fn the_corpus_has_the_count_after_what_was_found() {
     assert_eq!(line(MapOp::ByNodeId(165)), "refused 13");
     assert_eq!(line(MapOp::Note(amr(9))), "ok");
     assert_eq!(line(MapOp::ByNodeId(110)), "ok 00A 9");
+}
+
+/// So a look-up has one hit at most, whichever end it starts from.
+#[test]
+fn no_alias_and_no_node_id_stands_twice() {
+    let mut map = AliasMap::new();
+    for op in map_corpus::ops(corpus::SEED) {
+        op.answer(&mut map);
+        for (place, entry) in map.entries().iter().enumerate() {
+            let older = &map.entries()[..place];
+            assert!(older.iter().all(|other| other.alias != entry.alias && other.id != entry.id));
+        }
+    }
 }
 
 #[test]
