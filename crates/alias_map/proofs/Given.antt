@@ -2,22 +2,22 @@
 use mathlib.Core.Path.{_≡_, sym, ap, subst, _∙_}
 use mathlib.Core.Bool.{Bool, true, false, false≢true, _&&_}
 use mathlib.Core.List.{List, [], _∷_, _++_, append-nil}
-use Prim.Native.Nat.{ℕ, _+_, _%_, _^_, _<_, _≤_}
+use Prim.Native.Nat.{ℕ, _+_, _-_, _%_, _^_, _<_, _≤_}
 use native.Mathlib.Omega.{arith}
 use lib.Dec.{eqb, ltb}
 use lib.ListN.{length, getD, set, length-set, length-append}
 use lib.Seq.{getD-append-seam}
 use borrow.Author.Tests.{eq-eqb, eqb-true, ltb-true, ltb-false, le-leb, lt-leb}
-use Rattle.alias_map.specs.Rules.{Answer, accepted, refused, after, aliasIn, idIn, room, hasAlias, hasId, hasEither, without, add, first}
+use Rattle.alias_map.specs.Rules.{Answer, accepted, refused, after, aliasIn, idIn, room, hasAlias, hasId, hasEither, without, add, lookUp}
 use Rattle.alias_map.specs.Words.{entryFrom, entryAt, entriesIn, entriesOf}
 use Rattle.alias_map.specs.Answers.{Gives}
-use Rattle.alias_map.specs.Parts.{Counted, Before, Found, Kept, Removed}
+use Rattle.alias_map.specs.Parts.{Counted, Found, Met, Kept, Removed}
 use Rattle.alias_map.specs.Laws.{without-append}
 use Rattle.alias_map.specs.declared.answer.Answer as A
 use Rattle.alias_map.specs.declared.answer.Answer.the-variants.{Accepted, Refused}
 use Rattle.alias_map.specs.declared.answer.Refusal.the-variants.{Malformed, Full}
 use Rattle.alias_map.specs.declared.entry.Entry.{Entry}
-use Rattle.alias_map.proofs.Hits.{first-none, first-hit, without-none, hit-shorter, two-shorter}
+use Rattle.alias_map.proofs.Hits.{misses, hits, without-none, hit-shorter, two-shorter}
 use Rattle.alias_map.proofs.Places.{entries-length, entry-at, entries-more, entries-put, counted, none-of}
 
 -- nothing changes
@@ -46,18 +46,21 @@ module _ (t : List ℕ) (n : ℕ) (c : Counted t n) where
 
   -- LOOKING UP
 
-  module _ (p : Entry → Bool) (i : ℕ) (b : Before p t i) where
-    pub absent : n ≤ i → first p (entriesOf t) ≡ refused 13
+  module _ (g : Entry → ℕ) (p : Entry → Bool) (k : ℕ) (m : Met p t n k) where
+    pub absent : n < k → lookUp g p (entriesOf t) ≡ refused 13
     absent h =
-        ap (first p) entries-are
-        ∙ first-none p (entryFrom 0) (entriesIn n t) (none-of p t n inside (λ k l. b k (omega arith)))
+        ap (lookUp g p) entries-are
+        ∙ misses p (entryFrom 0) g (entriesIn n t) (none-of p t n inside (λ j l. m .before j (omega arith)))
 
-    pub present : i < n → p (entryAt t i) ≡ true → first p (entriesOf t) ≡ accepted (entryAt t i)
-    present h x =
-        ap (first p) entries-are
-        ∙ first-hit p (entryFrom 0) (entriesIn n t) i (omega (arith, entries-length t n inside))
-        (λ k l. let m : k < n = omega arith in ap p (entry-at t n k m) ∙ b k l) (ap p (entry-at t n i h) ∙ x)
-        ∙ ap accepted (entry-at t n i h)
+    pub present : k ≤ n → lookUp g p (entriesOf t) ≡ accepted (record { value = g (entryAt t (k - 1)); compared = k })
+    present h =
+        let at : k - 1 < n = omega (arith, m .some) in
+        let last : k - 1 + 1 ≡ k = omega (arith, m .some) in
+        ap (lookUp g p) entries-are
+        ∙ hits p (entryFrom 0) g (entriesIn n t) (k - 1) (omega (arith, entries-length t n inside))
+        (λ j l. let b : j < n = omega arith in ap p (entry-at t n j b) ∙ m .before j l)
+        (ap p (entry-at t n (k - 1) at) ∙ m .hit h)
+        ∙ (λ j. accepted (record { value = g (entry-at t n (k - 1) at j); compared = last j }))
 
   -- REMOVING
 

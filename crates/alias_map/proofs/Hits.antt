@@ -1,28 +1,36 @@
 -- Where a test holds of entries by their places: what is found first, and how many stay where such are removed.
-use mathlib.Core.Path.{_≡_, refl, ap}
+use mathlib.Core.Path.{_≡_, refl, sym, ap, _∙_}
 use mathlib.Core.Bool.{Bool, true, false, cond}
 use mathlib.Core.List.{List, [], _∷_}
 use Prim.Native.Nat.{ℕ, zero, suc, _+_, _<_}
 use native.Mathlib.Omega.{arith}
-use lib.ListN.{length, getD}
-use Rattle.alias_map.specs.Rules.{accepted, refused, without, first}
-use Rattle.alias_map.specs.Laws.{without-length}
+use lib.ListN.{length, getD, take, drop}
+use lib.Seq.{length-take-le, take-length, split-at}
+use Rattle.alias_map.specs.Rules.{accepted, refused, without, lookUp}
+use Rattle.alias_map.specs.Laws.{without-length, count, found-at, found-none}
 use Rattle.alias_map.specs.declared.entry.Entry.{Entry}
 
 module _ (p : Entry → Bool) (d : Entry) where
   abbrev pub None : List Entry → ℕ → Type 0
   None es n = (k : ℕ) → k < n → p (getD es k d) ≡ false
 
-  pub first-none : (es : List Entry) → None es (length es) → first p es ≡ refused 13
-  unfolding first
-  first-none [] h = refl
-  first-none (e ∷ es) h = simp (h 0 (omega arith)) (first-none es (λ k l. h (suc k) (omega arith)))
+  none-counted : (es : List Entry) (i : ℕ) → None es i → count p (take i es) ≡ 0
+  unfolding count
+  none-counted es zero h = refl
+  none-counted [] (suc i) h = refl
+  none-counted (e ∷ es) (suc i) h = simp (h 0 (omega arith)) (omega (arith, none-counted es i (λ k l. h (suc k) (omega arith))))
 
-  pub first-hit : (es : List Entry) (i : ℕ) → i < length es → None es i → p (getD es i d) ≡ true → first p es ≡ accepted (getD es i d)
-  unfolding first
-  first-hit [] i l b x = absurd (omega arith)
-  first-hit (e ∷ es) zero l b x = simp x
-  first-hit (e ∷ es) (suc i) l b x = simp (b 0 (omega arith)) (first-hit es i (omega arith) (λ k m. b (suc k) (omega arith)) x)
+  -- none is found, or the first at place i, where i + 1 entries were compared
+  module _ (g : Entry → ℕ) (es : List Entry) where
+    pub misses : None es (length es) → lookUp g p es ≡ refused 13
+    misses h = found-none g p es (ap (count p) (sym (take-length es)) ∙ none-counted es (length es) h)
+
+    pub hits : (i : ℕ) → i < length es → None es i → p (getD es i d) ≡ true
+        → lookUp g p es ≡ accepted (record { value = g (getD es i d); compared = i + 1 })
+    hits i l b x =
+        ap (lookUp g p) (split-at es i d l)
+        ∙ found-at g p (take i es) (drop (suc i) es) (getD es i d) (none-counted es i b) x
+        ∙ (λ j. accepted (record { value = g (getD es i d); compared = length-take-le i es (omega arith) j + 1 }))
 
   pub without-none : (es : List Entry) → None es (length es) → without p es ≡ es
   unfolding without

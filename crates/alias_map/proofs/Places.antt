@@ -1,5 +1,5 @@
 -- A map's words and its entries: the word of an entry, the search, the pass that removes some, and the count that is stored.
-use mathlib.Core.Path.{_≡_, sym, ap, subst, _∙_}
+use mathlib.Core.Path.{_≡_, refl, sym, ap, subst, _∙_}
 use mathlib.Core.Bool.{Bool, true, false}
 use mathlib.Core.List.{List, [], _∷_, _++_, map, append-nil}
 use Prim.Native.Nat.{ℕ, _+_, _*_, _/_, _%_, _^_, _<_, _≤_, min}
@@ -11,7 +11,7 @@ use lib.Seq.{length-take-le, take-suc, take-set-le, getD-set-same, getD-take, ge
 use borrow.Author.Tests.{eqb-true, eqb-false}
 use Rattle.alias_map.specs.Rules.{room, without}
 use Rattle.alias_map.specs.Words.{words, entryFrom, entryAt, entriesIn, countOf, entriesOf}
-use Rattle.alias_map.specs.Parts.{Before, Found, Kept}
+use Rattle.alias_map.specs.Parts.{Before, Found, Met, Kept}
 use Rattle.alias_map.specs.Laws.{without-append}
 use Rattle.alias_map.specs.declared.entry.Entry.{Entry}
 use Rattle.alias_map.proofs.Hits.{None, without-none}
@@ -80,6 +80,33 @@ module _ (p : Entry → Bool) (t : List ℕ) where
 
   pub found-hit : (n i : ℕ) → i < n → Before p t i → p (entryAt t i) ≡ true → Found p t n i
   found-hit n i h b x = record { most = omega arith; before = b; hit = λ l. x }
+
+  -- A look-up's search, k of n entries compared: between two rows of 8, and j entries behind the start of a row.
+  abbrev pub AtRow : (n k : ℕ) → Type 0
+  AtRow n k = (n ≤ room) × (k % 8 ≡ 0) × Before p t k
+
+  abbrev pub InRow : (n start j k : ℕ) → Type 0
+  InRow n start j k = AtRow n start × (start + 8 ≤ room) × (j ≤ 8) × (k ≡ start + j) × Before p t k
+
+  module _ (n start : ℕ) where
+    pub starts-row : start < n → AtRow n start → InRow n start 0 start
+    starts-row h r = (r, omega (arith, r .0, r .1), omega arith, omega arith, r .2)
+
+    pub goes-on : (j k : ℕ) → j < 8 → p (entryAt t k) ≡ false → InRow n start j k → InRow n start (j + 1) (k + 1)
+    goes-on j k h x r = (r .0, r .1, omega arith, omega (arith, r .3), before-more k (k + 1) refl (r .4) x)
+
+    pub ends-row : (j k : ℕ) → 8 ≤ j → InRow n start j k → AtRow n k
+    ends-row j k h r = (r .0 .0, omega (arith, r .0 .1, r .2, r .3), r .4)
+
+  pub met-none : (n i : ℕ) → n ≤ i → Before p t i → Met p t n (n + 1)
+  met-none n i h b = record { some = omega arith; before = λ k l. b k (omega arith); hit = λ l. absurd (omega arith) }
+
+  pub met-hit : (n i : ℕ) → Before p t i → p (entryAt t i) ≡ true → Met p t n (i + 1)
+  met-hit n i b x = record {
+    some = omega arith;
+    before = λ k l. b k (omega arith);
+    hit = λ l. ap (λ (j : ℕ). p (entryAt t j)) (omega arith) ∙ x;
+  }
 
   -- none of the first entries
   pub none-of : (i : ℕ) → i ≤ length t → Before p t i → None p (entryFrom 0) (entriesIn i t) (length (entriesIn i t))

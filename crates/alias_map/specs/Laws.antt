@@ -5,11 +5,11 @@ use mathlib.Core.List.{List, [], _∷_, _++_, append-nil}
 use Prim.Native.Nat.{ℕ, _+_, _≤_}
 use native.Mathlib.Omega.{arith}
 use lib.Dec.{leb}
-use lib.ListN.{length}
+use lib.ListN.{length, length-append}
 use borrow.Author.Tests.{eq-eqb, ne-eqb, eqb-true}
 use Rattle.headers.specs.Frames.{malformed}
 use Rattle.headers.specs.declared.frame.Frame.{Frame}
-use Rattle.alias_map.specs.Rules.{Answer, accepted, refused, refuse, aliasIn, kindIn, amd, amr, idIn, room, hasAlias, hasId, hasEither, without, add, define, noteKind, entryIn, note, first, asked, idOf, aliasOf}
+use Rattle.alias_map.specs.Rules.{Answer, accepted, refused, refuse, aliasIn, kindIn, amd, amr, idIn, room, hasAlias, hasId, hasEither, without, add, define, noteKind, entryIn, note, first, asked, compared, Hit, besides, lookUp, idOf, aliasOf}
 use Rattle.alias_map.specs.declared.entry.Entry.{Entry}
 
 -- a test that follows from another
@@ -84,53 +84,90 @@ count-removed q p (e ∷ es) h = go (p e) (q e) refl (h e) (count-removed q p es
 
 -- LOOKING UP
 
--- what is looked for is not among the entries that stay, where all such were removed
-past : (q p : Entry → Bool) (es new : List Entry) → Implies q p → first q (without p es ++ new) ≡ first q new
-unfolding first without
-past q p [] new h = refl
-past q p (e ∷ es) new h = go (p e) (q e) refl (h e) (past q p es new h)
-  where
-    go : (b c : Bool) → q e ≡ c → (q e ≡ true → b ≡ true) → first q (without p es ++ new) ≡ first q new
-        → first q (cond b (without p es) (e ∷ without p es) ++ new) ≡ first q new
-    go true c s i r = r
-    go false true s i r = absurd (false≢true (i s))
-    go false false s i r = simp s r
+module _ (q : Entry → Bool) where
+  -- where none of the older entries is looked for, the search has compared them all and goes on to the others
+  beyond : (older es : List Entry) → count q older ≡ 0
+      → (first q (older ++ es) ≡ first q es) × (compared q (older ++ es) ≡ length older + compared q es)
+  unfolding count first compared
+  beyond [] es h = (refl, omega arith)
+  beyond (e ∷ older) es h = go (q e) h (beyond older es)
+    where
+      go : (b : Bool) → cond b 1 0 + count q older ≡ 0
+          → (count q older ≡ 0 → (first q (older ++ es) ≡ first q es) × (compared q (older ++ es) ≡ length older + compared q es))
+          → (cond b (accepted e) (first q (older ++ es)) ≡ first q es)
+          × (1 + cond b 0 (compared q (older ++ es)) ≡ length (e ∷ older) + compared q es)
+      go true h r = absurd (omega arith)
+      go false h r = let rest = r (omega arith) in (rest .0, omega (arith, rest .1))
 
-alone : (q : Entry → Bool) (n : Entry) → q n ≡ true → first q (n ∷ []) ≡ accepted n
-unfolding first
-alone q n h = simp h
+module _ (g : Entry → ℕ) (q : Entry → Bool) where
+  -- A.4. The oldest entry of which the test holds is found, and the count is its place from the oldest, which is 1;
+  pub found-at : (older newer : List Entry) (e : Entry) → count q older ≡ 0 → q e ≡ true
+      → lookUp g q (older ++ e ∷ newer) ≡ accepted (record { value = g e; compared = length older + 1 })
+  unfolding first compared
+  found-at older newer e none h =
+      let r = beyond q older (e ∷ newer) none in
+      let place : compared q (older ++ e ∷ newer) ≡ length older + 1 = r .1 ∙ simp h in
+      let hit : first q (older ++ e ∷ newer) ≡ accepted e = r .0 ∙ simp h in
+      λ j. besides (place j) (asked g (hit j))
+
+  -- where there is none, 13 alone.
+  pub found-none : (es : List Entry) → count q es ≡ 0 → lookUp g q es ≡ refused 13
+  unfolding first
+  found-none es none =
+      let absent : first q es ≡ refused 13 = ap (first q) (sym (append-nil es)) ∙ beyond q es [] none .0 in
+      ap (λ (a : Answer Entry). besides (compared q es) (asked g a)) absent
+
+  -- Without the count, answers are those of document 01.
+  abbrev valueOf : Answer Hit → Answer ℕ
+  valueOf (accepted h) = accepted (h .value)
+  valueOf (refused number) = refused number
+
+  pub otherwise-as-before : (es : List Entry) → valueOf (lookUp g q es) ≡ asked g (first q es)
+  otherwise-as-before es = go (first q es)
+    where
+      go : (a : Answer Entry) → valueOf (besides (compared q es) (asked g a)) ≡ asked g a
+      go (accepted e) = refl
+      go (refused number) = refl
 
 module _ (n : Entry) where
-  -- what was added is found by its alias and by its Node ID
+  -- what was added is found by its alias and by its Node ID, after all others
   abbrev Finds : Answer (List Entry) → Type 0
-  Finds (accepted es) = (idOf es (n .alias .0) ≡ accepted (n .id)) × (aliasOf es (n .id) ≡ accepted (n .alias .0))
+  Finds (accepted es) =
+      (idOf es (n .alias .0) ≡ accepted (record { value = n .id; compared = length es }))
+      × (aliasOf es (n .id) ≡ accepted (record { value = n .alias .0; compared = length es }))
   Finds (refused number) = Unit {0}
 
   add-finds : (es : List Entry) → Finds (add es n)
   unfolding add idOf aliasOf
-  add-finds es = go (leb room (length (without (hasEither n) es)))
+  add-finds es = go (leb room (length others))
     where
+      others : List Entry
+      others = without (hasEither n) es
+
+      last : (g : Entry → ℕ) (q : Entry → Bool) → q n ≡ true → Implies q (hasEither n)
+          → lookUp g q (others ++ n ∷ []) ≡ accepted (record { value = g n; compared = length (others ++ n ∷ []) })
+      last g q h i =
+          found-at g q others [] n (count-removed q (hasEither n) es i) h
+          ∙ (λ j. accepted (record { value = g n; compared = sym (length-append others (n ∷ [])) j }))
+
       own-alias : hasAlias (n .alias .0) n ≡ true
       own-alias = eq-eqb (n .alias .0) (n .alias .0) refl
 
       own-id : hasId (n .id) n ≡ true
       own-id = eq-eqb (n .id) (n .id) refl
 
-      last : (q : Entry → Bool) → q n ≡ true → Implies q (hasEither n)
-          → first q (without (hasEither n) es ++ n ∷ []) ≡ accepted n
-      last q h i = past q (hasEither n) es (n ∷ []) i ∙ alone q n h
-
-      go : (b : Bool) → Finds (refuse b 12 (accepted (without (hasEither n) es ++ n ∷ [])))
+      go : (b : Bool) → Finds (refuse b 12 (accepted (others ++ n ∷ [])))
       go true = tt
       go false = (
-        ap (asked (λ e. e .id)) (last (hasAlias (n .alias .0)) own-alias (like-alias n (n .alias .0) own-alias)),
-        ap (asked (λ e. e .alias .0)) (last (hasId (n .id)) own-id (like-id n (n .id) own-id)),
+        last (λ e. e .id) (hasAlias (n .alias .0)) own-alias (like-alias n (n .alias .0) own-alias),
+        last (λ e. e .alias .0) (hasId (n .id)) own-id (like-id n (n .id) own-id),
       )
 
 module _ (es es′ : List Entry) (f : Frame) (extended : f .kind ≡ 0) (e : note es f ≡ accepted es′) where
-  -- what was noted last is found, either way
+  -- what was noted last is found, either way, after all others
   pub noted-found : kindIn (f .header) ≡ amd → f .len ≡ 6 → (aliasIn (f .header) ≡ 0 → ⊥) → (idIn (f .bytes) ≡ 0 → ⊥)
-      → (idOf es′ (aliasIn (f .header)) ≡ accepted (idIn (f .bytes))) × (aliasOf es′ (idIn (f .bytes)) ≡ accepted (aliasIn (f .header)))
+      → (idOf es′ (aliasIn (f .header)) ≡ accepted (record { value = idIn (f .bytes); compared = length es′ }))
+      × (aliasOf es′ (idIn (f .bytes)) ≡ accepted (record { value = aliasIn (f .header); compared = length es′ }))
   unfolding note noteKind define
   noted-found k l na ni = subst (Finds (entryIn f)) (sym added ∙ e) (go (malformed f))
     where
@@ -143,7 +180,7 @@ module _ (es es′ : List Entry) (f : Frame) (extended : f .kind ≡ 0) (e : not
 
   -- an alias that was released is absent
   pub released-absent : kindIn (f .header) ≡ amr → idOf es′ (aliasIn (f .header)) ≡ refused 13
-  unfolding note noteKind idOf first
+  unfolding note noteKind idOf
   released-absent k = subst Gone (sym removed ∙ e) (go (malformed f))
     where
       Gone : Answer (List Entry) → Type 0
@@ -159,6 +196,5 @@ module _ (es es′ : List Entry) (f : Frame) (extended : f .kind ≡ 0) (e : not
       go : (b : Bool) → Gone (refuse b 9 (accepted rest))
       go true = tt
       go false =
-          ap (asked (λ e. e .id))
-          (ap (first (hasAlias (aliasIn (f .header)))) (sym (append-nil rest))
-          ∙ past (hasAlias (aliasIn (f .header))) (hasAlias (aliasIn (f .header))) es [] (λ x h. h))
+          found-none (λ e. e .id) (hasAlias (aliasIn (f .header))) rest
+          (count-removed (hasAlias (aliasIn (f .header))) (hasAlias (aliasIn (f .header))) es (λ x h. h))

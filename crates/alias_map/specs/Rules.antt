@@ -1,5 +1,5 @@
--- Document 01, "The map". This is the file to believe of the crate.
-use Prim.Native.Nat.{ℕ}
+-- Document 01, "The map", and document 02, A.4. This is the file to believe of the crate.
+use Prim.Native.Nat.{ℕ, _+_}
 use mathlib.Core.Bool.{Bool, not, cond, _&&_, _||_}
 use mathlib.Core.List.{List, [], _∷_, _++_}
 use lib.Dec.{leb, eqb}
@@ -96,8 +96,26 @@ abbrev pub asked : (Entry → ℕ) → Answer Entry → Answer ℕ
 asked g (accepted e) = accepted (g e)
 asked g (refused number) = refused number
 
-unfoldable pub idOf : List Entry → ℕ → Answer ℕ
-idOf es a = asked (λ e. e .id) (first (hasAlias a) es)
+-- A.4. Either look-up ends at its hit; how many entries it compared, counted as they are: the hit's place from the oldest,
+-- which is 1.
+unfoldable pub compared : (Entry → Bool) → List Entry → ℕ
+compared p [] = 0
+compared p (e ∷ es) = 1 + cond (p e) 0 (compared p es)
 
-unfoldable pub aliasOf : List Entry → ℕ → Answer ℕ
-aliasOf es i = asked (λ e. e .alias .0) (first (hasId i) es)
+-- It answers this besides; otherwise answers, 13 included, remain those of document 01.
+pub record Hit : Type 0 where
+  pub value : ℕ
+  pub compared : ℕ
+
+abbrev pub besides : ℕ → Answer ℕ → Answer Hit
+besides n (accepted x) = accepted (record { value = x; compared = n })
+besides n (refused number) = refused number
+
+abbrev pub lookUp : (Entry → ℕ) → (Entry → Bool) → List Entry → Answer Hit
+lookUp g p es = besides (compared p es) (asked g (first p es))
+
+unfoldable pub idOf : List Entry → ℕ → Answer Hit
+idOf es a = lookUp (λ e. e .id) (hasAlias a) es
+
+unfoldable pub aliasOf : List Entry → ℕ → Answer Hit
+aliasOf es i = lookUp (λ e. e .alias .0) (hasId i) es

@@ -28,12 +28,13 @@ impl Refusal {
 // The number of the refusal that a look-up has where its entry is absent.
 pub const ABSENT: u8 = 13;
 
+// A look-up's answer: what was found, and how many entries were compared (A.4); no count where the entry is absent.
 pub enum FoundId {
-    Id(u64),
+    Id { id: u64, compared: usize },
     Absent,
 }
 
 pub enum FoundAlias {
-    Alias(Alias),
+    Alias { alias: Alias, compared: usize },
     Absent,
 }

@@ -1,8 +1,10 @@
--- The map for C: a note's answer as a number, and what the operation promises of it: what the note that it calls promises.
+-- The map for C: a note's answer as a number, and what the operation promises of it: what the note that it calls promises; the
+-- words of a look-up's answer.
 use mathlib.Core.Path.{_≡_}
-use mathlib.Core.List.{List, []}
+use mathlib.Core.List.{List, [], _∷_}
 use Prim.Native.Nat.{ℕ}
 use Rattle.headers.specs.declared.frame.Frame.{Frame}
+use Rattle.alias_map.specs.Rules.{Hit}
 use Rattle.alias_map.specs.Answers.{answerAs}
 use Rattle.alias_map.specs.Sound.{Notes}
 use Rattle.alias_map.specs.declared.answer.Answer.{Answer}
@@ -17,3 +19,7 @@ pub record CodedNote (f : Frame) (t : List ℕ) (r : ℕ) (t′ : List ℕ) : Ty
   pub answer : Answer
   pub code : r ≡ noteCode answer
   pub does : Notes t f answer t′
+
+-- What a look-up found, and how many entries it compared.
+abbrev pub hitWords : Hit → List ℕ
+hitWords h = h .value ∷ h .compared ∷ []

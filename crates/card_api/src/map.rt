@@ -10,8 +10,8 @@ ghost use mathlib.Core.Path.{_≡_};
 ghost use mathlib.Core.List.{[]};
 ghost use Rattle.alias_map.specs.Rules.{idOf, aliasOf};
 ghost use Rattle.alias_map.specs.Words.{entriesOf};
-ghost use Rattle.card_api.specs.Out.{Out, one};
-ghost use Rattle.card_api.specs.Map.{noteCode, CodedNote};
+ghost use Rattle.card_api.specs.Out.{Out};
+ghost use Rattle.card_api.specs.Map.{noteCode, CodedNote, hitWords};
 
 #[no_mangle]
 pub extern "C" fn map_new(map: &mut [u64; WORDS])
@@ -50,28 +50,28 @@ pub extern "C" fn map_note(
     note_code(a)
 }
 
-// Writes the Node ID, where the alias has one.
+// Writes the Node ID and how many entries were compared, where the alias has one.
 #[no_mangle]
-pub extern "C" fn map_id_of(map: &[u64; WORDS], alias: u16, found: &mut [u64; 1]) -> u64
-    ensures { λ r. ⌜ Out one (idOf (entriesOf (now (map .entry))) alias) r (now (found .entry)) (now (found .exit)) ⌝ }
+pub extern "C" fn map_id_of(map: &[u64; WORDS], alias: u16, found: &mut [u64; 2]) -> u64
+    ensures { λ r. ⌜ Out hitWords (idOf (entriesOf (now (map .entry))) alias) r (now (found .entry)) (now (found .exit)) ⌝ }
 {
     match alias_map::look_up::id_of(map, Alias(alias)) {
-        FoundId::Id(id) => {
-            *found = [id];
+        FoundId::Id { id, compared } => {
+            *found = [id, compared as u64];
             0
         }
         FoundId::Absent => ABSENT as u64,
     }
 }
 
-// Writes the alias, where the Node ID has one.
+// Writes the alias and how many entries were compared, where the Node ID has one.
 #[no_mangle]
-pub extern "C" fn map_alias_of(map: &[u64; WORDS], id: u64, found: &mut [u64; 1]) -> u64
-    ensures { λ r. ⌜ Out one (aliasOf (entriesOf (now (map .entry))) id) r (now (found .entry)) (now (found .exit)) ⌝ }
+pub extern "C" fn map_alias_of(map: &[u64; WORDS], id: u64, found: &mut [u64; 2]) -> u64
+    ensures { λ r. ⌜ Out hitWords (aliasOf (entriesOf (now (map .entry))) id) r (now (found .entry)) (now (found .exit)) ⌝ }
 {
     match alias_map::look_up::alias_of(map, id) {
-        FoundAlias::Alias(a) => {
-            *found = [a.0 as u64];
+        FoundAlias::Alias { alias, compared } => {
+            *found = [alias.0 as u64, compared as u64];
             0
         }
         FoundAlias::Absent => ABSENT as u64,

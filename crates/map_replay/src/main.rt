@@ -37,17 +37,29 @@ fn digit(n: u64) -> u8 {
     if d < 10 { 48 + d } else { 55 + d }
 }
 
-// The last twelve hex digits, and a line feed.
-fn hex_line(n: u64) -> [u8; 13]
-    ensures { λ r. ⌜ 13 ≡ length r ⌝ }
+// The last twelve hex digits.
+fn hex(n: u64) -> [u8; 12]
+    ensures { λ r. ⌜ 12 ≡ length r ⌝ }
 {
-    let mut text = [10u8; 13];
+    let mut text = [0u8; 12];
     let mut rest = n;
     for i in 0..12 {
         text[11 - i] = digit(rest);
         rest = rest / 16;
     }
     text
+}
+
+// How many entries were compared, at most 64, after a blank and before a line feed.
+fn write_compared(compared: usize) {
+    let n = compared as u64 % 100;
+    let text = [32, digit(n / 10), digit(n % 10), 10];
+    if n < 10 {
+        io::write_all(STDOUT_FILENO, b" ");
+        io::write_all(STDOUT_FILENO, &text[2..]);
+        return;
+    }
+    io::write_all(STDOUT_FILENO, &text);
 }
 
 fn note(map: &mut [u64; WORDS], b: &[u8; 14]) {
@@ -75,10 +87,11 @@ fn note(map: &mut [u64; WORDS], b: &[u8; 14]) {
 
 fn look_up_alias(map: &[u64; WORDS], b: &[u8; 14]) {
     match alias_map::look_up::id_of(map, Alias((number(b, 0, 2) % 0x1_0000) as u16)) {
-        FoundId::Id(id) => {
-            let text = hex_line(id);
+        FoundId::Id { id, compared } => {
+            let text = hex(id);
             io::write_all(STDOUT_FILENO, b"ok ");
             io::write_all(STDOUT_FILENO, &text);
+            write_compared(compared);
         }
         FoundId::Absent => {
             io::write_all(STDOUT_FILENO, b"refused 13\n");
@@ -88,10 +101,11 @@ fn look_up_alias(map: &[u64; WORDS], b: &[u8; 14]) {
 
 fn look_up_id(map: &[u64; WORDS], b: &[u8; 14]) {
     match alias_map::look_up::alias_of(map, number(b, 0, 6)) {
-        FoundAlias::Alias(a) => {
-            let text = hex_line(a.0 as u64);
+        FoundAlias::Alias { alias, compared } => {
+            let text = hex(alias.0 as u64);
             io::write_all(STDOUT_FILENO, b"ok ");
             io::write_all(STDOUT_FILENO, &text[9..]);
+            write_compared(compared);
         }
         FoundAlias::Absent => {
             io::write_all(STDOUT_FILENO, b"refused 13\n");
