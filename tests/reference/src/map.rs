@@ -87,11 +87,13 @@ impl AliasMap {
     }
 
     /// The Node ID of an alias; 13 if absent.
+    #[inline]
     pub fn node_id_of(&self, alias: Alias) -> Result<Found<u64>, Refusal> {
         self.look_up(|entry| entry.alias == alias, |entry| entry.id)
     }
 
     /// The alias of a Node ID; 13 if absent.
+    #[inline]
     pub fn alias_of(&self, id: u64) -> Result<Found<Alias>, Refusal> {
         self.look_up(|entry| entry.id == id, |entry| entry.alias)
     }
