@@ -145,11 +145,15 @@ void map_new(uint64_t map[MAP_WORDS]);
 /* A frame was seen on the bus: an AMD makes an entry, an AMR removes one. Operands as in card_foreign. 9, 12. */
 uint64_t map_note(uint64_t map[MAP_WORDS], uint8_t kind, uint32_t header, uint8_t len, uint64_t bytes);
 
-/* The Node ID of an alias. 13. */
-uint64_t map_id_of(const uint64_t map[MAP_WORDS], uint16_t alias, uint64_t found[1]);
+/* The Node ID of an alias, and how many entries were compared. 13. */
+uint64_t map_id_of(const uint64_t map[MAP_WORDS], uint16_t alias, uint64_t found[2]);
 
-/* The alias of a Node ID. 13. */
-uint64_t map_alias_of(const uint64_t map[MAP_WORDS], uint64_t id, uint64_t found[1]);
+/* The alias of a Node ID, and how many entries were compared. 13. */
+uint64_t map_alias_of(const uint64_t map[MAP_WORDS], uint64_t id, uint64_t found[2]);
+
+/* The places of `found`. A look-up compares from the oldest entry on and ends at its hit: the count is the hit's place from the
+ * oldest, which is 1. Where the entry is absent there is no count. */
+enum { MAP_FOUND_VALUE, MAP_FOUND_COMPARED, MAP_FOUND_WORDS };
 
 /* HEADERS AND ALIASES, as the standard has them */
 

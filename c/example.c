@@ -53,14 +53,14 @@ static void show_alias(uint64_t alias) {
 static void show_table(void) {
     printf("\nexhibit  Node ID       state      first  alias    map  up\n");
     for (size_t i = 0; i < CARD_NODES; i++) {
-        uint64_t words[CARD_SEEN_WORDS], first[1] = {0}, found[1] = {0};
+        uint64_t words[CARD_SEEN_WORDS], first[1] = {0}, found[MAP_FOUND_WORDS] = {0};
         card_look(table, i, words);
         lcc_first_alias(words[CARD_SEEN_ID], first);
         map_alias_of(map, words[CARD_SEEN_ID], found);
         printf("%7zu  %012" PRIX64 "  %-9s", i, words[CARD_SEEN_ID], STATES[words[CARD_SEEN_STATE]]);
         show_alias(first[0]);
         show_alias(words[CARD_SEEN_ALIAS]);
-        show_alias(found[0]);
+        show_alias(found[MAP_FOUND_VALUE]);
         printf("  %s\n", words[CARD_SEEN_STATE] == CARD_STATE_PERMITTED ? "yes" : "no");
     }
     printf("%s\n\n", card_is_late(table) ? "late: something stood or waited for more than 40 ticks" : "kept: no two exhibits use one alias");
@@ -158,10 +158,11 @@ static void work(void) {
 
 /* Whose alias is this, by the map? */
 static void ask(uint16_t alias) {
-    uint64_t id[1];
-    uint64_t answer = map_id_of(map, alias, id);
+    uint64_t found[MAP_FOUND_WORDS];
+    uint64_t answer = map_id_of(map, alias, found);
     if (answer == 0)
-        printf("alias %03X is that of Node ID %012" PRIX64 "\n", (unsigned)alias, id[0]);
+        printf("alias %03X is that of Node ID %012" PRIX64 ", entries compared: %" PRIu64 "\n", (unsigned)alias,
+               found[MAP_FOUND_VALUE], found[MAP_FOUND_COMPARED]);
     else
         printf("alias %03X: refused by %" PRIu64 ", the map has no such entry\n", (unsigned)alias, answer);
 }

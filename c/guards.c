@@ -15,9 +15,10 @@ struct guarded {
 };
 
 static struct guarded table = {.words = CARD_WORDS}, sent = {.words = CARD_SENT_WORDS}, seen = {.words = CARD_SEEN_WORDS},
-                      frame = {.words = CARD_FRAME_WORDS}, map = {.words = MAP_WORDS}, one = {.words = 1},
-                      parts = {.words = LCC_PARTS_WORDS}, next = {.words = LCC_NEXT_WORDS};
-static struct guarded *const BUFFERS[] = {&table, &sent, &seen, &frame, &map, &one, &parts, &next};
+                      frame = {.words = CARD_FRAME_WORDS}, map = {.words = MAP_WORDS},
+                      found = {.words = MAP_FOUND_WORDS}, one = {.words = 1}, parts = {.words = LCC_PARTS_WORDS},
+                      next = {.words = LCC_NEXT_WORDS};
+static struct guarded *const BUFFERS[] = {&table, &sent, &seen, &frame, &map, &found, &one, &parts, &next};
 static unsigned accepted, refused;
 
 #define EACH(b) for (struct guarded *const *b = BUFFERS; b < BUFFERS + sizeof BUFFERS / sizeof *BUFFERS; b++)
@@ -90,6 +91,7 @@ static const size_t FAR = SIZE_MAX;
 #define SEEN words(&seen)
 #define FRAME words(&frame)
 #define M words(&map)
+#define FOUND words(&found)
 #define ONE words(&one)
 #define PARTS words(&parts)
 #define NEXT words(&next)
@@ -279,26 +281,38 @@ static void ends(size_t index) {
 /* An alias with a Node ID, as an AMD defines them. */
 #define AMD(alias, id) M, 0, UINT32_C(0x10701000) + (alias), 6, (id) << 16
 
+/* Either look-up of alias n with Node ID ID + n: found at this place, from the oldest, which is 1. The map does not change. */
+static void find_at(uint16_t n, size_t place) {
+    ACCEPTED(map_id_of(M, n, FOUND));
+    check_same("map_id_of", &map);
+    EXPECT(FOUND[MAP_FOUND_VALUE], ID + n);
+    EXPECT(FOUND[MAP_FOUND_COMPARED], place);
+    ACCEPTED(map_alias_of(M, ID + n, FOUND));
+    check_same("map_alias_of", &map);
+    EXPECT(FOUND[MAP_FOUND_VALUE], n);
+    EXPECT(FOUND[MAP_FOUND_COMPARED], place);
+}
+
 static void maps(void) {
     map_new(M);
     check_guards("map_new");
-    REFUSED(CARD_REFUSED_ABSENT, map_id_of(M, 0, ONE));
-    REFUSED(CARD_REFUSED_ABSENT, map_id_of(M, 0xFFFF, ONE));
-    REFUSED(CARD_REFUSED_ABSENT, map_alias_of(M, 0, ONE));
-    REFUSED(CARD_REFUSED_ABSENT, map_alias_of(M, UINT64_MAX, ONE));
+    REFUSED(CARD_REFUSED_ABSENT, map_id_of(M, 0, FOUND));
+    REFUSED(CARD_REFUSED_ABSENT, map_id_of(M, 0xFFFF, FOUND));
+    REFUSED(CARD_REFUSED_ABSENT, map_alias_of(M, 0, FOUND));
+    REFUSED(CARD_REFUSED_ABSENT, map_alias_of(M, UINT64_MAX, FOUND));
     REFUSED(CARD_REFUSED_MALFORMED, map_note(M, 255, UINT32_MAX, 255, UINT64_MAX));
     for (uint32_t i = 1; i <= MAP_ENTRIES; i++)
         ACCEPTED(map_note(AMD(i, ID + i)));
     REFUSED(CARD_REFUSED_FULL, map_note(AMD(0xFFF, ID)));
-    ACCEPTED(map_id_of(M, MAP_ENTRIES, ONE));
-    check_same("map_id_of", &map);
-    EXPECT(ONE[0], ID + MAP_ENTRIES);
-    ACCEPTED(map_alias_of(M, ID + 1, ONE));
-    check_same("map_alias_of", &map);
-    EXPECT(ONE[0], 1);
+    for (uint16_t i = 1; i <= MAP_ENTRIES; i++)
+        find_at(i, i);
     ACCEPTED(map_note(M, 0, UINT32_C(0x10703001), 0, 0));
-    REFUSED(CARD_REFUSED_ABSENT, map_id_of(M, 1, ONE));
-    ACCEPTED(map_note(AMD(0xFFF, ID)));
+    REFUSED(CARD_REFUSED_ABSENT, map_id_of(M, 1, FOUND));
+    REFUSED(CARD_REFUSED_ABSENT, map_alias_of(M, ID + 1, FOUND));
+    find_at(2, 1);
+    find_at(MAP_ENTRIES, MAP_ENTRIES - 1);
+    ACCEPTED(map_note(AMD(0xFFF, ID + 0xFFF)));
+    find_at(0xFFF, MAP_ENTRIES);
 }
 
 static void headers(void) {

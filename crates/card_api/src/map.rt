@@ -55,7 +55,7 @@ pub extern "C" fn map_note(
 pub extern "C" fn map_id_of(map: &[u64; WORDS], alias: u16, found: &mut [u64; 2]) -> u64
     ensures { λ r. ⌜ Out hitWords (idOf (entriesOf (now (map .entry))) alias) r (now (found .entry)) (now (found .exit)) ⌝ }
 {
-    match alias_map::look_up::id_of(map, Alias(alias)) {
+    match alias_map::by_alias::id_of(map, Alias(alias)) {
         FoundId::Id { id, compared } => {
             *found = [id, compared as u64];
             0
@@ -69,7 +69,7 @@ pub extern "C" fn map_id_of(map: &[u64; WORDS], alias: u16, found: &mut [u64; 2]
 pub extern "C" fn map_alias_of(map: &[u64; WORDS], id: u64, found: &mut [u64; 2]) -> u64
     ensures { λ r. ⌜ Out hitWords (aliasOf (entriesOf (now (map .entry))) id) r (now (found .entry)) (now (found .exit)) ⌝ }
 {
-    match alias_map::look_up::alias_of(map, id) {
+    match alias_map::by_id::alias_of(map, id) {
         FoundAlias::Alias { alias, compared } => {
             *found = [alias.0 as u64, compared as u64];
             0

@@ -86,7 +86,7 @@ fn note(map: &mut [u64; WORDS], b: &[u8; 14]) {
 }
 
 fn look_up_alias(map: &[u64; WORDS], b: &[u8; 14]) {
-    match alias_map::look_up::id_of(map, Alias((number(b, 0, 2) % 0x1_0000) as u16)) {
+    match alias_map::by_alias::id_of(map, Alias((number(b, 0, 2) % 0x1_0000) as u16)) {
         FoundId::Id { id, compared } => {
             let text = hex(id);
             io::write_all(STDOUT_FILENO, b"ok ");
@@ -100,7 +100,7 @@ fn look_up_alias(map: &[u64; WORDS], b: &[u8; 14]) {
 }
 
 fn look_up_id(map: &[u64; WORDS], b: &[u8; 14]) {
-    match alias_map::look_up::alias_of(map, number(b, 0, 6)) {
+    match alias_map::by_id::alias_of(map, number(b, 0, 6)) {
         FoundAlias::Alias { alias, compared } => {
             let text = hex(alias.0 as u64);
             io::write_all(STDOUT_FILENO, b"ok ");

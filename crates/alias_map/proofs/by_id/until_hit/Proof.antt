@@ -5,8 +5,8 @@ use borrow.Author.Needs.{needs}
 use borrow.Author.Tests.{eq-eqb, ne-eqb}
 use Rattle.alias_map.specs.Rules.{room, hasId}
 use Rattle.alias_map.proofs.Places.{tells, AtRow, InRow, starts-row, goes-on, ends-row, met-none, met-hit}
-use Rattle.alias_map.proofs.look_up.until_id.Statement.{statement}
-use Rattle.alias_map.proofs.look_up.until_id.Tie as tie
+use Rattle.alias_map.proofs.by_id.until_hit.Statement.{statement}
+use Rattle.alias_map.proofs.by_id.until_hit.Tie as tie
 
 abbrev Inv-loop2 : tie.InvT-loop2
 Inv-loop2 map n id compared₀ counter₀ compared counter = InRow (hasId id) map n compared₀ counter compared
@@ -20,8 +20,8 @@ Inv-loop map n id compared₀ compared = AtRow (hasId id) map n compared
 abbrev μ-loop : tie.MeasureT-loop
 μ-loop map n id compared₀ compared = room - compared
 
-pub until-id-spec : {M : Type 1} → statement M
-until-id-spec =
+pub until-hit-spec : {M : Type 1} → statement M
+until-hit-spec =
     tie.close (tie.spec
     Inv-loop2
     μ-loop2

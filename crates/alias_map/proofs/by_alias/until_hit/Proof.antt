@@ -4,8 +4,8 @@ use native.Mathlib.Omega.{arith}
 use borrow.Author.Needs.{needs}
 use Rattle.alias_map.specs.Rules.{room, hasAlias}
 use Rattle.alias_map.proofs.Places.{tells, AtRow, InRow, starts-row, goes-on, ends-row, met-none, met-hit}
-use Rattle.alias_map.proofs.look_up.until_alias.Statement.{statement}
-use Rattle.alias_map.proofs.look_up.until_alias.Tie as tie
+use Rattle.alias_map.proofs.by_alias.until_hit.Statement.{statement}
+use Rattle.alias_map.proofs.by_alias.until_hit.Tie as tie
 
 abbrev Inv-loop2 : tie.InvT-loop2
 Inv-loop2 map n alias compared₀ counter₀ compared counter = InRow (hasAlias (alias .0)) map n compared₀ counter compared
@@ -19,8 +19,8 @@ Inv-loop map n alias compared₀ compared = AtRow (hasAlias (alias .0)) map n co
 abbrev μ-loop : tie.MeasureT-loop
 μ-loop map n alias compared₀ compared = room - compared
 
-pub until-alias-spec : {M : Type 1} → statement M
-until-alias-spec =
+pub until-hit-spec : {M : Type 1} → statement M
+until-hit-spec =
     tie.close (tie.spec
     Inv-loop2
     μ-loop2
