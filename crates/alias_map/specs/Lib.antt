@@ -7,3 +7,4 @@ pub mod Laws
 pub mod Sound
 pub mod Order
 pub mod Lists
+pub mod Examples
