@@ -112,7 +112,7 @@ mod tests {
     /// Ticks that can go only by twos.
     #[test]
     fn commands_go_together() {
-        let fails = |script: &[u8]| script.len().is_multiple_of(2) && script.len() >= 4;
+        let fails = |script: &[u8]| script.len() % 2 == 0 && script.len() >= 4;
         assert_eq!(shrink(&[0x05; 64], fails), [0x05; 4]);
     }
 

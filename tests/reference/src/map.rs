@@ -39,6 +39,7 @@ impl AliasMap {
     }
 
     /// The entries, oldest first.
+    #[inline]
     pub fn entries(&self) -> &[Entry] {
         &self.entries[..self.len]
     }

@@ -23,9 +23,6 @@ const CHANGES: [(u8, u8, Option<u32>); 9] = [
 const OTHERS: [State; 5] =
     [State::Testing, State::Reserved, State::Leaving, State::Resting, State::Silent];
 
-/// Something that happens to the node at index 0.
-type Act = fn(&mut Draft);
-
 /// A Permitted node with nothing due, told this link state while it was Reserved.
 fn permitted_with(link: u8) -> Draft {
     let mut draft = in_state(State::Reserved);
@@ -210,7 +207,7 @@ fn a_remembered_state_is_where_the_next_change_starts() {
 /// By a failed send, by a matching frame in Testing and in Reserved, and after a collision.
 #[test]
 fn a_restart_keeps_the_link_state() {
-    let restarts: [(State, Act); 4] = [
+    let restarts: [(State, fn(&mut Draft)); 4] = [
         (State::Testing, |draft| _ = draft.fail(0)),
         (State::Testing, |draft| _ = draft.foreign_cid(0).deliver(0)),
         (State::Reserved, collide),
@@ -272,7 +269,7 @@ fn a_refused_power_on_keeps_link_state_and_report() {
 
 #[test]
 fn whatever_leaves_nothing_waiting_drops_the_report() {
-    let drops: [(State, Act); 4] = [
+    let drops: [(State, fn(&mut Draft)); 4] = [
         (State::Leaving, collide),
         (State::Leaving, |draft| _ = draft.release(0)),
         (State::Silent, |draft| _ = draft.foreign_amd_of(0).deliver(0).send(0)),

@@ -99,7 +99,7 @@ fn measure_calls(row: &mut Row, repeats: u64) -> (f64, f64) {
     const CALLS: u64 = 6_400;
     let time = |call: &mut dyn FnMut(u64)| {
         let start = Instant::now();
-        (0..CALLS).for_each(call);
+        (0..CALLS).for_each(|turn| call(turn));
         start.elapsed()
     };
     let (mut first, mut second) = (Vec::new(), Vec::new());
