@@ -50,17 +50,18 @@ module _ (t : List ℕ) (n : ℕ) (c : Counted t n) where
     pub absent : n < k → lookUp g p (entriesOf t) ≡ refused 13
     absent h =
         ap (lookUp g p) entries-are
-        ∙ misses p (entryFrom 0) g (entriesIn n t) (none-of p t n inside (λ j l. m .before j (omega arith)))
+        ∙ misses p (entryFrom 0) g (entriesIn n t) (none-of p t n inside (λ j l. m .first .before j (omega arith)))
 
-    pub present : k ≤ n → lookUp g p (entriesOf t) ≡ accepted (record { value = g (entryAt t (k - 1)); compared = k })
+    pub present : k ≤ n → lookUp g p (entriesOf t) ≡ accepted (record { value = g (entryAt t (k - 1)); count = k })
     present h =
         let at : k - 1 < n = omega (arith, m .some) in
         let last : k - 1 + 1 ≡ k = omega (arith, m .some) in
+        let f : Found p t n (k - 1) = subst (Found p t n) (omega (arith, at)) (m .first) in
         ap (lookUp g p) entries-are
         ∙ hits p (entryFrom 0) g (entriesIn n t) (k - 1) (omega (arith, entries-length t n inside))
-        (λ j l. let b : j < n = omega arith in ap p (entry-at t n j b) ∙ m .before j l)
-        (ap p (entry-at t n (k - 1) at) ∙ m .hit h)
-        ∙ (λ j. accepted (record { value = g (entry-at t n (k - 1) at j); compared = last j }))
+        (λ j l. let b : j < n = omega arith in ap p (entry-at t n j b) ∙ f .before j l)
+        (ap p (entry-at t n (k - 1) at) ∙ f .hit at)
+        ∙ (λ j. accepted (record { value = g (entry-at t n (k - 1) at j); count = last j }))
 
   -- REMOVING
 

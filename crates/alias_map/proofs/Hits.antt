@@ -7,7 +7,7 @@ use native.Mathlib.Omega.{arith}
 use lib.ListN.{length, getD, take, drop}
 use lib.Seq.{length-take-le, take-length, split-at}
 use Rattle.alias_map.specs.Rules.{accepted, refused, without, lookUp}
-use Rattle.alias_map.specs.Laws.{without-length, count, found-at, found-none}
+use Rattle.alias_map.specs.Laws.{without-length, count, found-at, not-found}
 use Rattle.alias_map.specs.declared.entry.Entry.{Entry}
 
 module _ (p : Entry → Bool) (d : Entry) where
@@ -23,14 +23,14 @@ module _ (p : Entry → Bool) (d : Entry) where
   -- none is found, or the first at place i, where i + 1 entries were compared
   module _ (g : Entry → ℕ) (es : List Entry) where
     pub misses : None es (length es) → lookUp g p es ≡ refused 13
-    misses h = found-none g p es (ap (count p) (sym (take-length es)) ∙ none-counted es (length es) h)
+    misses h = not-found g p es (ap (count p) (sym (take-length es)) ∙ none-counted es (length es) h)
 
     pub hits : (i : ℕ) → i < length es → None es i → p (getD es i d) ≡ true
-        → lookUp g p es ≡ accepted (record { value = g (getD es i d); compared = i + 1 })
+        → lookUp g p es ≡ accepted (record { value = g (getD es i d); count = i + 1 })
     hits i l b x =
         ap (lookUp g p) (split-at es i d l)
         ∙ found-at g p (take i es) (drop (suc i) es) (getD es i d) (none-counted es i b) x
-        ∙ (λ j. accepted (record { value = g (getD es i d); compared = length-take-le i es (omega arith) j + 1 }))
+        ∙ (λ j. accepted (record { value = g (getD es i d); count = length-take-le i es (omega arith) j + 1 }))
 
   pub without-none : (es : List Entry) → None es (length es) → without p es ≡ es
   unfolding without

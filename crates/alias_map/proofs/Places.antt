@@ -2,13 +2,13 @@
 use mathlib.Core.Path.{_≡_, refl, sym, ap, subst, _∙_}
 use mathlib.Core.Bool.{Bool, true, false}
 use mathlib.Core.List.{List, [], _∷_, _++_, map, append-nil}
-use Prim.Native.Nat.{ℕ, _+_, _*_, _/_, _%_, _^_, _<_, _≤_, min}
+use Prim.Native.Nat.{ℕ, _+_, _-_, _*_, _/_, _%_, _^_, _<_, _≤_, min}
 use native.Mathlib.Numerals.{add-one}
 use native.Mathlib.Omega.{arith}
-use lib.Dec.{eqb}
+use lib.Dec.{eqb, ltb}
 use lib.ListN.{length, getD, set, take, drop, length-set, length-map, List·getD-map}
 use lib.Seq.{length-take-le, take-suc, take-set-le, getD-set-same, getD-take, getD-drop, drop-drop, drop-set-lt, take-suc-set}
-use borrow.Author.Tests.{eqb-true, eqb-false}
+use borrow.Author.Tests.{eqb-true, eqb-false, ltb-true, ltb-false}
 use Rattle.alias_map.specs.Rules.{room, without}
 use Rattle.alias_map.specs.Words.{words, entryFrom, entryAt, entriesIn, countOf, entriesOf}
 use Rattle.alias_map.specs.Parts.{Before, Found, Met, Kept}
@@ -99,14 +99,14 @@ module _ (p : Entry → Bool) (t : List ℕ) where
     ends-row j k h r = (r .0 .0, omega (arith, r .0 .1, r .2, r .3), r .4)
 
   pub met-none : (n i : ℕ) → n ≤ i → Before p t i → Met p t n (n + 1)
-  met-none n i h b = record { some = omega arith; before = λ k l. b k (omega arith); hit = λ l. absurd (omega arith) }
+  met-none n i h b = record { some = omega arith; first = subst (Found p t n) (omega arith) (found-none n i h b) }
 
   pub met-hit : (n i : ℕ) → Before p t i → p (entryAt t i) ≡ true → Met p t n (i + 1)
-  met-hit n i b x = record {
-    some = omega arith;
-    before = λ k l. b k (omega arith);
-    hit = λ l. ap (λ (j : ℕ). p (entryAt t j)) (omega arith) ∙ x;
-  }
+  met-hit n i b x = record { some = omega arith; first = go (ltb i n) (λ q. ltb-true i n q) (λ q. ltb-false i n q) }
+    where
+      go : (c : Bool) → (c ≡ true → i < n) → (c ≡ false → n ≤ i) → Found p t n (min (i + 1 - 1) n)
+      go true q r = let h = q (λ j. true) in subst (Found p t n) (omega arith) (found-hit n i h b x)
+      go false q r = let h = r (λ j. false) in subst (Found p t n) (omega arith) (found-none n i h b)
 
   -- none of the first entries
   pub none-of : (i : ℕ) → i ≤ length t → Before p t i → None p (entryFrom 0) (entriesIn i t) (length (entriesIn i t))

@@ -3,7 +3,7 @@ use mathlib.Core.Path.{_≡_}
 use Prim.Native.Nat.{ℕ}
 use mathlib.Core.Bool.{Bool}
 use mathlib.Core.List.{List}
-use Rattle.alias_map.specs.Rules.{Answer, accepted, refused, after, hasAlias, hasEither, Hit}
+use Rattle.alias_map.specs.Rules.{Answer, accepted, refused, after, hasAlias, hasEither, Finding}
 use Rattle.alias_map.specs.Words.{entriesOf}
 use Rattle.alias_map.specs.declared.entry.Entry.{Entry}
 use Rattle.alias_map.specs.declared.entry.Key as K
@@ -31,10 +31,10 @@ pub record Gives (before : List ℕ) (a : Answer (List Entry)) (x : A.Answer) (t
   pub answer : answerAs x (entriesOf then) ≡ a
   pub still : after a (entriesOf before) ≡ entriesOf before → then ≡ before
 
-abbrev pub idAs : I.FoundId → Answer Hit
-idAs (I.the-variants.Id id compared) = accepted (record { value = id; compared = compared })
+abbrev pub idAs : I.FoundId → Answer Finding
+idAs (I.the-variants.Id id compared) = accepted (record { value = id; count = compared })
 idAs I.the-variants.Absent = refused 13
 
-abbrev pub aliasAs : F.FoundAlias → Answer Hit
-aliasAs (F.the-variants.Alias a compared) = accepted (record { value = a .0; compared = compared })
+abbrev pub aliasAs : F.FoundAlias → Answer Finding
+aliasAs (F.the-variants.Alias a compared) = accepted (record { value = a .0; count = compared })
 aliasAs F.the-variants.Absent = refused 13

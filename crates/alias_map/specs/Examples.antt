@@ -30,7 +30,7 @@ abbrev now : List Entry → Answered
 now es = noted (accepted es)
 
 abbrev found : (value count : ℕ) → Answered
-found value count = lookedUp (accepted (record { value = value; compared = count }))
+found value count = lookedUp (accepted (record { value = value; count = count }))
 
 abbrev absent : Answered
 absent = lookedUp (refused 13)

@@ -9,7 +9,7 @@ use lib.ListN.{length, length-append}
 use borrow.Author.Tests.{eq-eqb, ne-eqb, eqb-true}
 use Rattle.headers.specs.Frames.{malformed}
 use Rattle.headers.specs.declared.frame.Frame.{Frame}
-use Rattle.alias_map.specs.Rules.{Answer, accepted, refused, refuse, aliasIn, kindIn, amd, amr, idIn, room, hasAlias, hasId, hasEither, without, add, define, noteKind, entryIn, note, first, asked, compared, Hit, besides, lookUp, idOf, aliasOf}
+use Rattle.alias_map.specs.Rules.{Answer, accepted, refused, refuse, aliasIn, kindIn, amd, amr, idIn, room, hasAlias, hasId, hasEither, without, add, define, noteKind, entryIn, note, first, asked, compared, Finding, besides, lookUp, idOf, aliasOf}
 use Rattle.alias_map.specs.declared.entry.Entry.{Entry}
 
 -- a test that follows from another
@@ -90,19 +90,23 @@ module _ (q : Entry → Bool) where
       → (first q (older ++ es) ≡ first q es) × (compared q (older ++ es) ≡ length older + compared q es)
   unfolding count first compared
   beyond [] es h = (refl, omega arith)
-  beyond (e ∷ older) es h = go (q e) h (beyond older es)
+  beyond (e ∷ older) es h = go (q e) refl (beyond older es)
     where
-      go : (b : Bool) → cond b 1 0 + count q older ≡ 0
+      go : (b : Bool) → q e ≡ b
           → (count q older ≡ 0 → (first q (older ++ es) ≡ first q es) × (compared q (older ++ es) ≡ length older + compared q es))
-          → (cond b (accepted e) (first q (older ++ es)) ≡ first q es)
-          × (1 + cond b 0 (compared q (older ++ es)) ≡ length (e ∷ older) + compared q es)
-      go true h r = absurd (omega arith)
-      go false h r = let rest = r (omega arith) in (rest .0, omega (arith, rest .1))
+          → (first q ((e ∷ older) ++ es) ≡ first q es) × (compared q ((e ∷ older) ++ es) ≡ length (e ∷ older) + compared q es)
+      go true s r = absurd (omega (arith, simp s at h))
+      go false s r = let rest = r (omega (arith, simp s at h)) in (simp s (rest .0), simp s (omega (arith, rest .1)))
+
+-- what is left of an answer without the count
+abbrev pub valueOf : Answer Finding → Answer ℕ
+valueOf (accepted f) = accepted (f .value)
+valueOf (refused number) = refused number
 
 module _ (g : Entry → ℕ) (q : Entry → Bool) where
   -- A.4. The oldest entry of which the test holds is found, and the count is its place from the oldest, which is 1;
   pub found-at : (older newer : List Entry) (e : Entry) → count q older ≡ 0 → q e ≡ true
-      → lookUp g q (older ++ e ∷ newer) ≡ accepted (record { value = g e; compared = length older + 1 })
+      → lookUp g q (older ++ e ∷ newer) ≡ accepted (record { value = g e; count = length older + 1 })
   unfolding first compared
   found-at older newer e none h =
       let r = beyond q older (e ∷ newer) none in
@@ -111,17 +115,13 @@ module _ (g : Entry → ℕ) (q : Entry → Bool) where
       λ j. besides (place j) (asked g (hit j))
 
   -- where there is none, 13 alone.
-  pub found-none : (es : List Entry) → count q es ≡ 0 → lookUp g q es ≡ refused 13
+  pub not-found : (es : List Entry) → count q es ≡ 0 → lookUp g q es ≡ refused 13
   unfolding first
-  found-none es none =
+  not-found es none =
       let absent : first q es ≡ refused 13 = ap (first q) (sym (append-nil es)) ∙ beyond q es [] none .0 in
       ap (λ (a : Answer Entry). besides (compared q es) (asked g a)) absent
 
-  -- Without the count, answers are those of document 01.
-  abbrev valueOf : Answer Hit → Answer ℕ
-  valueOf (accepted h) = accepted (h .value)
-  valueOf (refused number) = refused number
-
+  -- A.4. Otherwise answers remain those of document 01.
   pub otherwise-as-before : (es : List Entry) → valueOf (lookUp g q es) ≡ asked g (first q es)
   otherwise-as-before es = go (first q es)
     where
@@ -133,8 +133,8 @@ module _ (n : Entry) where
   -- what was added is found by its alias and by its Node ID, after all others
   abbrev Finds : Answer (List Entry) → Type 0
   Finds (accepted es) =
-      (idOf es (n .alias .0) ≡ accepted (record { value = n .id; compared = length es }))
-      × (aliasOf es (n .id) ≡ accepted (record { value = n .alias .0; compared = length es }))
+      (idOf es (n .alias .0) ≡ accepted (record { value = n .id; count = length es }))
+      × (aliasOf es (n .id) ≡ accepted (record { value = n .alias .0; count = length es }))
   Finds (refused number) = Unit {0}
 
   add-finds : (es : List Entry) → Finds (add es n)
@@ -145,10 +145,10 @@ module _ (n : Entry) where
       others = without (hasEither n) es
 
       last : (g : Entry → ℕ) (q : Entry → Bool) → q n ≡ true → Implies q (hasEither n)
-          → lookUp g q (others ++ n ∷ []) ≡ accepted (record { value = g n; compared = length (others ++ n ∷ []) })
+          → lookUp g q (others ++ n ∷ []) ≡ accepted (record { value = g n; count = length (others ++ n ∷ []) })
       last g q h i =
           found-at g q others [] n (count-removed q (hasEither n) es i) h
-          ∙ (λ j. accepted (record { value = g n; compared = sym (length-append others (n ∷ [])) j }))
+          ∙ (λ j. accepted (record { value = g n; count = sym (length-append others (n ∷ [])) j }))
 
       own-alias : hasAlias (n .alias .0) n ≡ true
       own-alias = eq-eqb (n .alias .0) (n .alias .0) refl
@@ -166,8 +166,8 @@ module _ (n : Entry) where
 module _ (es es′ : List Entry) (f : Frame) (extended : f .kind ≡ 0) (e : note es f ≡ accepted es′) where
   -- what was noted last is found, either way, after all others
   pub noted-found : kindIn (f .header) ≡ amd → f .len ≡ 6 → (aliasIn (f .header) ≡ 0 → ⊥) → (idIn (f .bytes) ≡ 0 → ⊥)
-      → (idOf es′ (aliasIn (f .header)) ≡ accepted (record { value = idIn (f .bytes); compared = length es′ }))
-      × (aliasOf es′ (idIn (f .bytes)) ≡ accepted (record { value = aliasIn (f .header); compared = length es′ }))
+      → (idOf es′ (aliasIn (f .header)) ≡ accepted (record { value = idIn (f .bytes); count = length es′ }))
+      × (aliasOf es′ (idIn (f .bytes)) ≡ accepted (record { value = aliasIn (f .header); count = length es′ }))
   unfolding note noteKind define
   noted-found k l na ni = subst (Finds (entryIn f)) (sym added ∙ e) (go (malformed f))
     where
@@ -196,5 +196,5 @@ module _ (es es′ : List Entry) (f : Frame) (extended : f .kind ≡ 0) (e : not
       go : (b : Bool) → Gone (refuse b 9 (accepted rest))
       go true = tt
       go false =
-          found-none (λ e. e .id) (hasAlias (aliasIn (f .header))) rest
+          not-found (λ e. e .id) (hasAlias (aliasIn (f .header))) rest
           (count-removed (hasAlias (aliasIn (f .header))) (hasAlias (aliasIn (f .header))) es (λ x h. h))

@@ -3,7 +3,7 @@ use mathlib.Core.Path.{_≡_, refl, sym, ap, subst, _∙_}
 use Prim.Native.Nat.{ℕ}
 use mathlib.Core.List.{List, [], _∷_, _++_, map, append-nil, append-assoc}
 use Rattle.headers.specs.declared.frame.Frame.{Frame}
-use Rattle.alias_map.specs.Rules.{Answer, entryIn, note, after, Hit, idOf, aliasOf}
+use Rattle.alias_map.specs.Rules.{Answer, entryIn, note, after, Finding, idOf, aliasOf}
 use Rattle.alias_map.specs.Words.{entriesOf}
 use Rattle.alias_map.specs.Answers.{answerAs, idAs, aliasAs}
 use Rattle.alias_map.specs.Sound.{Sound, empty-sound, leaves, Notes}
@@ -21,7 +21,7 @@ pub data Call : Type 0 where
 
 pub data Answered : Type 0 where
   noted : Answer (List Entry) → Answered
-  lookedUp : Answer Hit → Answered
+  lookedUp : Answer Finding → Answered
 
 -- One call by the rules: its answer, and the entries after it. A look-up changes nothing.
 abbrev pub answer : List Entry → Call → Answered

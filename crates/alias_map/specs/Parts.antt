@@ -2,7 +2,7 @@
 use mathlib.Core.Path.{_≡_}
 use mathlib.Core.Bool.{Bool, true, false}
 use mathlib.Core.List.{List}
-use Prim.Native.Nat.{ℕ, _-_, _<_, _≤_}
+use Prim.Native.Nat.{ℕ, _-_, _<_, _≤_, min}
 use lib.ListN.{length, drop}
 use Rattle.alias_map.specs.Rules.{room, without}
 use Rattle.alias_map.specs.Words.{words, entryAt, entriesIn, countOf}
@@ -24,11 +24,10 @@ pub record Found (p : Entry → Bool) (t : List ℕ) (n i : ℕ) : Type 0 where
   pub before : Before p t i
   pub hit : i < n → p (entryAt t i) ≡ true
 
--- Of n entries c are compared until the test holds of one; more than n where it holds of none.
+-- Of n entries c are compared until the test holds of one, the last of these; more than n where it holds of none.
 pub record Met (p : Entry → Bool) (t : List ℕ) (n c : ℕ) : Type 0 where
   pub some : 0 < c
-  pub before : Before p t (c - 1)
-  pub hit : c ≤ n → p (entryAt t (c - 1)) ≡ true
+  pub first : Found p t n (min (c - 1) n)
 
 -- Of the first i entries those that stay stand in the first k places; the words from place i on are as they were.
 pub record Kept (p : Entry → Bool) (t : List ℕ) (i k : ℕ) (t′ : List ℕ) : Type 0 where

@@ -102,20 +102,22 @@ unfoldable pub compared : (Entry → Bool) → List Entry → ℕ
 compared p [] = 0
 compared p (e ∷ es) = 1 + cond (p e) 0 (compared p es)
 
--- It answers this besides; otherwise answers, 13 included, remain those of document 01.
-pub record Hit : Type 0 where
+-- A.4. What a look-up answers: what is asked of the hit, and besides how many entries were compared.
+pub record Finding : Type 0 where
   pub value : ℕ
-  pub compared : ℕ
+  pub count : ℕ
 
-abbrev pub besides : ℕ → Answer ℕ → Answer Hit
-besides n (accepted x) = accepted (record { value = x; compared = n })
+-- A.4. Otherwise answers, 13 included, remain those of document 01.
+abbrev pub besides : (count : ℕ) → Answer ℕ → Answer Finding
+besides n (accepted x) = accepted (record { value = x; count = n })
 besides n (refused number) = refused number
 
-abbrev pub lookUp : (Entry → ℕ) → (Entry → Bool) → List Entry → Answer Hit
+abbrev pub lookUp : (Entry → ℕ) → (Entry → Bool) → List Entry → Answer Finding
 lookUp g p es = besides (compared p es) (asked g (first p es))
 
-unfoldable pub idOf : List Entry → ℕ → Answer Hit
+-- Either way: the Node ID of an alias, and the alias of a Node ID.
+unfoldable pub idOf : List Entry → ℕ → Answer Finding
 idOf es a = lookUp (λ e. e .id) (hasAlias a) es
 
-unfoldable pub aliasOf : List Entry → ℕ → Answer Hit
+unfoldable pub aliasOf : List Entry → ℕ → Answer Finding
 aliasOf es i = lookUp (λ e. e .alias .0) (hasId i) es

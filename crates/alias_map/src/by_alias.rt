@@ -12,8 +12,8 @@ ghost use Rattle.alias_map.specs.Words.{entriesOf};
 ghost use Rattle.alias_map.specs.Answers.{idAs};
 ghost use Rattle.alias_map.specs.Parts.{Met};
 
-// How many of n entries are compared until one has this alias; n + 1 where none has it. `compared` is the only counter: it is 1
-// more with each entry, and returned as it stands.
+// How many of n entries are compared until one has this alias; more than n where none has it. `compared` is also the place that
+// is compared next; beside it only the row is counted, and at the first match it is returned as it stands.
 fn until_hit(map: &[u64; WORDS], n: usize, alias: Alias) -> usize
     requires { ⌜ n ≤ room ⌝ }
     ensures { λ r. ⌜ Met (hasAlias (alias .0)) (now (map .entry)) n r ⌝ }

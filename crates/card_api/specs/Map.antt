@@ -4,7 +4,7 @@ use mathlib.Core.Path.{_≡_}
 use mathlib.Core.List.{List, [], _∷_}
 use Prim.Native.Nat.{ℕ}
 use Rattle.headers.specs.declared.frame.Frame.{Frame}
-use Rattle.alias_map.specs.Rules.{Hit}
+use Rattle.alias_map.specs.Rules.{Finding}
 use Rattle.alias_map.specs.Answers.{answerAs}
 use Rattle.alias_map.specs.Sound.{Notes}
 use Rattle.alias_map.specs.declared.answer.Answer.{Answer}
@@ -21,5 +21,5 @@ pub record CodedNote (f : Frame) (t : List ℕ) (r : ℕ) (t′ : List ℕ) : Ty
   pub does : Notes t f answer t′
 
 -- What a look-up found, and how many entries it compared.
-abbrev pub hitWords : Hit → List ℕ
-hitWords h = h .value ∷ h .compared ∷ []
+abbrev pub foundWords : Finding → List ℕ
+foundWords f = f .value ∷ f .count ∷ []

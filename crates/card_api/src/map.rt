@@ -11,7 +11,7 @@ ghost use mathlib.Core.List.{[]};
 ghost use Rattle.alias_map.specs.Rules.{idOf, aliasOf};
 ghost use Rattle.alias_map.specs.Words.{entriesOf};
 ghost use Rattle.card_api.specs.Out.{Out};
-ghost use Rattle.card_api.specs.Map.{noteCode, CodedNote, hitWords};
+ghost use Rattle.card_api.specs.Map.{noteCode, CodedNote, foundWords};
 
 #[no_mangle]
 pub extern "C" fn map_new(map: &mut [u64; WORDS])
@@ -53,7 +53,7 @@ pub extern "C" fn map_note(
 // Writes the Node ID and how many entries were compared, where the alias has one.
 #[no_mangle]
 pub extern "C" fn map_id_of(map: &[u64; WORDS], alias: u16, found: &mut [u64; 2]) -> u64
-    ensures { λ r. ⌜ Out hitWords (idOf (entriesOf (now (map .entry))) alias) r (now (found .entry)) (now (found .exit)) ⌝ }
+    ensures { λ r. ⌜ Out foundWords (idOf (entriesOf (now (map .entry))) alias) r (now (found .entry)) (now (found .exit)) ⌝ }
 {
     match alias_map::by_alias::id_of(map, Alias(alias)) {
         FoundId::Id { id, compared } => {
@@ -67,7 +67,7 @@ pub extern "C" fn map_id_of(map: &[u64; WORDS], alias: u16, found: &mut [u64; 2]
 // Writes the alias and how many entries were compared, where the Node ID has one.
 #[no_mangle]
 pub extern "C" fn map_alias_of(map: &[u64; WORDS], id: u64, found: &mut [u64; 2]) -> u64
-    ensures { λ r. ⌜ Out hitWords (aliasOf (entriesOf (now (map .entry))) id) r (now (found .entry)) (now (found .exit)) ⌝ }
+    ensures { λ r. ⌜ Out foundWords (aliasOf (entriesOf (now (map .entry))) id) r (now (found .entry)) (now (found .exit)) ⌝ }
 {
     match alias_map::by_id::alias_of(map, id) {
         FoundAlias::Alias { alias, compared } => {

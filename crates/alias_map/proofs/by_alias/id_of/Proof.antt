@@ -17,4 +17,4 @@ id-of-spec =
     (λ c. search needs)
     (λ c. search needs)
     (λ c κs. search needs)
-    (λ c. ap (λ (e : Entry). accepted (record { value = e .id; compared = c .before .before .before .until-hit .result })) (c .entry-in .ensures) ∙ sym (present _ _ (c .before .before .before .before .len .ensures) (λ e. e .id) (hasAlias (c .before .before .before .before .before .args .alias .0)) _ (c .before .before .before .until-hit .ensures) (c .before .before .if1 .left))))
+    (λ c. ap (λ (e : Entry). accepted (record { value = e .id; count = c .before .before .before .until-hit .result })) (c .entry-in .ensures) ∙ sym (present _ _ (c .before .before .before .before .len .ensures) (λ e. e .id) (hasAlias (c .before .before .before .before .before .args .alias .0)) _ (c .before .before .before .until-hit .ensures) (c .before .before .if1 .left))))

@@ -17,4 +17,4 @@ alias-of-spec =
     (λ c. search needs)
     (λ c. search needs)
     (λ c κs. search needs)
-    (λ c. ap (λ (e : Entry). accepted (record { value = e .alias .0; compared = c .before .before .before .before .until-hit .result })) (c .before .entry-in .ensures) ∙ sym (present _ _ (c .before .before .before .before .before .len .ensures) (λ e. e .alias .0) (hasId (c .before .before .before .before .before .before .args .id)) _ (c .before .before .before .before .until-hit .ensures) (c .before .before .before .if1 .left))))
+    (λ c. ap (λ (e : Entry). accepted (record { value = e .alias .0; count = c .before .before .before .before .until-hit .result })) (c .before .entry-in .ensures) ∙ sym (present _ _ (c .before .before .before .before .before .len .ensures) (λ e. e .alias .0) (hasId (c .before .before .before .before .before .before .args .id)) _ (c .before .before .before .before .until-hit .ensures) (c .before .before .before .if1 .left))))
