@@ -102,7 +102,7 @@ unfoldable pub compared : (Entry → Bool) → List Entry → ℕ
 compared p [] = 0
 compared p (e ∷ es) = 1 + cond (p e) 0 (compared p es)
 
--- A.4. What a look-up answers: what is asked of the hit, and besides how many entries were compared.
+-- A.4. What either look-up answers: what is asked of its hit, and besides how many entries it compared.
 pub record Finding : Type 0 where
   pub value : ℕ
   pub count : ℕ
@@ -112,10 +112,11 @@ abbrev pub besides : (count : ℕ) → Answer ℕ → Answer Finding
 besides n (accepted x) = accepted (record { value = x; count = n })
 besides n (refused number) = refused number
 
+-- A.4. So a look-up answers, for what is asked of an entry and the test by which it is looked for;
 abbrev pub lookUp : (Entry → ℕ) → (Entry → Bool) → List Entry → Answer Finding
 lookUp g p es = besides (compared p es) (asked g (first p es))
 
--- Either way: the Node ID of an alias, and the alias of a Node ID.
+-- either way, the Node ID of an alias and the alias of a Node ID.
 unfoldable pub idOf : List Entry → ℕ → Answer Finding
 idOf es a = lookUp (λ e. e .id) (hasAlias a) es
 
