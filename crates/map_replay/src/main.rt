@@ -53,13 +53,13 @@ fn hex(n: u64) -> [u8; 12]
 // How many entries were compared, at most 64, after a blank and before a line feed.
 fn write_compared(compared: usize) {
     let n = compared as u64 % 100;
-    let text = [32, digit(n / 10), digit(n % 10), 10];
+    let text = [digit(n / 10), digit(n % 10), 10];
+    io::write_all(STDOUT_FILENO, b" ");
     if n < 10 {
-        io::write_all(STDOUT_FILENO, b" ");
-        io::write_all(STDOUT_FILENO, &text[2..]);
-        return;
+        io::write_all(STDOUT_FILENO, &text[1..]);
+    } else {
+        io::write_all(STDOUT_FILENO, &text);
     }
-    io::write_all(STDOUT_FILENO, &text);
 }
 
 fn note(map: &mut [u64; WORDS], b: &[u8; 14]) {
