@@ -1,5 +1,5 @@
 -- A map's words and its entries: the word of an entry, the search, the pass that removes some, and the count that is stored.
-use mathlib.Core.Path.{_≡_, refl, sym, ap, subst, _∙_}
+use mathlib.Core.Path.{_≡_, sym, ap, subst, _∙_}
 use mathlib.Core.Bool.{Bool, true, false}
 use mathlib.Core.List.{List, [], _∷_, _++_, map, append-nil}
 use Prim.Native.Nat.{ℕ, _+_, _-_, _*_, _/_, _%_, _^_, _<_, _≤_, min}
@@ -68,8 +68,8 @@ pub tells : (p : Entry → Bool) (w : ℕ) {e : Entry} {b c : Bool} → b ≡ p 
 tells p w h s q = sym (h ∙ ap p s) ∙ q
 
 module _ (p : Entry → Bool) (t : List ℕ) where
-  pub before-more : (i j : ℕ) → j ≡ i + 1 → Before p t i → p (entryAt t i) ≡ false → Before p t j
-  before-more i j e b x k h = go (eqb k i) (λ q. eqb-true k i q) (λ q. eqb-false k i q)
+  before-more : (i : ℕ) → Before p t i → p (entryAt t i) ≡ false → Before p t (i + 1)
+  before-more i b x k h = go (eqb k i) (λ q. eqb-true k i q) (λ q. eqb-false k i q)
     where
       go : (c : Bool) → (c ≡ true → k ≡ i) → (c ≡ false → k ≡ i → ⊥) → p (entryAt t k) ≡ false
       go true q r = subst (λ (m : ℕ). p (entryAt t m) ≡ false) (sym (q (λ j. true))) x
@@ -81,7 +81,7 @@ module _ (p : Entry → Bool) (t : List ℕ) where
   pub found-hit : (n i : ℕ) → i < n → Before p t i → p (entryAt t i) ≡ true → Found p t n i
   found-hit n i h b x = record { most = omega arith; before = b; hit = λ l. x }
 
-  -- A look-up's search, k of n entries compared: between two rows of 8, and j entries behind the start of a row.
+  -- A search in rows of 8, k of n entries compared: between two rows, and j entries behind the start of one.
   abbrev pub AtRow : (n k : ℕ) → Type 0
   AtRow n k = (n ≤ room) × (k % 8 ≡ 0) × Before p t k
 
@@ -93,7 +93,7 @@ module _ (p : Entry → Bool) (t : List ℕ) where
     starts-row h r = (r, omega (arith, r .0, r .1), omega arith, omega arith, r .2)
 
     pub goes-on : (j k : ℕ) → j < 8 → p (entryAt t k) ≡ false → InRow n start j k → InRow n start (j + 1) (k + 1)
-    goes-on j k h x r = (r .0, r .1, omega arith, omega (arith, r .3), before-more k (k + 1) refl (r .4) x)
+    goes-on j k h x r = (r .0, r .1, omega arith, omega (arith, r .3), before-more k (r .4) x)
 
     pub ends-row : (j k : ℕ) → 8 ≤ j → InRow n start j k → AtRow n k
     ends-row j k h r = (r .0 .0, omega (arith, r .0 .1, r .2, r .3), r .4)

@@ -13,7 +13,7 @@ use Rattle.alias_map.specs.declared.answer.Answer as A
 use Rattle.alias_map.specs.declared.answer.FoundId as I
 use Rattle.alias_map.specs.declared.answer.FoundAlias as F
 
--- What can be done with a map, and what it answers: a note gives the entries that there are then, a look-up its hit.
+-- What can be done with a map, and what it answers: a note gives the entries that there are then, a look-up its finding.
 pub data Call : Type 0 where
   noting : Frame → Call
   byAlias : ℕ → Call
