@@ -4,6 +4,7 @@ pub mod Words
 pub mod Answers
 pub mod Parts
 pub mod Laws
+pub mod Bit28
 pub mod Sound
 pub mod Order
 pub mod Lists

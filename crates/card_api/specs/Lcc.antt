@@ -1,4 +1,5 @@
--- Headers and aliases for C: what the words of a header's parts are, and header writing with any number as its type.
+-- Headers and aliases for C: what the words of a header's parts are, and header writing with any numbers as bit 28 and type.
+use mathlib.Core.Bool.{_||_}
 use mathlib.Core.List.{List, [], _∷_}
 use Prim.Native.Nat.{ℕ}
 use lib.Dec.{leb}
@@ -36,13 +37,13 @@ kindSection (errorReport number) = 0
 kindSection reserved = 0
 kindSection message = 0
 
--- Type, field, alias; kind, its number, its section.
+-- Type, field, alias; kind, its number, its section; bit 28 last (A.5).
 abbrev pub partsWords : Parts → List ℕ
-partsWords p = p .type ∷ p .field ∷ p .alias ∷ kindCode (p .kind) ∷ kindNumber (p .kind) ∷ kindSection (p .kind) ∷ []
+partsWords p = p .type ∷ p .field ∷ p .alias ∷ kindCode (p .kind) ∷ kindNumber (p .kind) ∷ kindSection (p .kind) ∷ p .bit ∷ []
 
 abbrev pub nextWords : Next → List ℕ
 nextWords d = d .state ∷ d .alias ∷ []
 
--- The type is one bit of a header: above 1 it is out of range too.
-abbrev pub writeAny : (type field alias : ℕ) → Answer ℕ
-writeAny type field alias = refuse (leb 2 type) 9 (write type field alias)
+-- Bit 28 and the type are one bit each of a header: above 1 they are out of range too.
+abbrev pub writeAny : (bit type field alias : ℕ) → Answer ℕ
+writeAny bit type field alias = refuse (leb 2 bit || leb 2 type) 9 (write bit type field alias)

@@ -31,6 +31,7 @@ fn bad_node_id() -> u64
 
 // HEADERS
 
+// Of a number below 2.
 fn type_of(class: u8) -> Type
     requires { ⌜ class < 2 ⌝ }
     ensures { λ r. ⌜ typeOf r ≡ class ⌝ }
@@ -43,28 +44,28 @@ fn type_of(class: u8) -> Type
 }
 
 #[no_mangle]
-pub extern "C" fn lcc_write_header(class: u8, field: u16, alias: u16, header: &mut [u64; 1]) -> u64
-    ensures { λ r. ⌜ Out one (writeAny class field alias) r (now (header .entry)) (now (header .exit)) ⌝ }
+pub extern "C" fn lcc_write_header(
+    bit: u8,
+    class: u8,
+    field: u16,
+    alias: u16,
+    header: &mut [u64; 1],
+) -> u64
+    ensures { λ r. ⌜ Out one (writeAny bit class field alias) r (now (header .entry)) (now (header .exit)) ⌝ }
 {
+    if 1 < bit {
+        return malformed();
+    }
     if 1 < class {
         return malformed();
     }
     let t = type_of(class);
-    match headers::header::write_header(t, field, Alias(alias)) {
+    match headers::header::write_header(bit == 1, t, field, Alias(alias)) {
         Written::Header(h) => {
             *header = [h as u64];
             0
         }
         Written::Malformed => malformed(),
-    }
-}
-
-fn type_bit(class: Type) -> u64
-    ensures { λ r. ⌜ r ≡ typeOf class ⌝ }
-{
-    match class {
-        Type::Control => 0,
-        Type::Message => 1,
     }
 }
 
@@ -118,22 +119,31 @@ fn kind_section(kind: Kind) -> u64
     }
 }
 
-// A header's parts in six words.
-fn parts_words(p: Parts) -> [u64; 6]
+// A header's parts in seven words, bit 28 last.
+fn parts_words(p: Parts) -> [u64; 7]
     ensures { λ r. ⌜ r ≡ partsWords (partsAs p) ⌝ }
 {
     let class = p.class;
     let alias = p.alias;
     let kind = p.kind;
-    let bit = type_bit(class);
+    let type_bit = headers::header::type_bit(class);
     let code = kind_code(kind);
     let number = kind_number(kind);
     let section = kind_section(kind);
-    [bit, p.field as u64, alias.0 as u64, code, number, section]
+    let bit = headers::header::bit_28(p.bit);
+    [
+        type_bit as u64,
+        p.field as u64,
+        alias.0 as u64,
+        code,
+        number,
+        section,
+        bit as u64,
+    ]
 }
 
 #[no_mangle]
-pub extern "C" fn lcc_read_header(header: u32, parts: &mut [u64; 6]) -> u64
+pub extern "C" fn lcc_read_header(header: u32, parts: &mut [u64; 7]) -> u64
     ensures { λ r. ⌜ Out partsWords (read header) r (now (parts .entry)) (now (parts .exit)) ⌝ }
 {
     match headers::header::read_header(header) {

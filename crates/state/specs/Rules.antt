@@ -124,6 +124,10 @@ errorOn ErrorPassive ErrorPassive e = e
 
 -- THE FRAMES, by the Node ID and the alias of their sender
 
+-- Nodes send bit 28 as 1 (A.5).
+abbrev pub sentHeader : (type field alias : ℕ) → ℕ
+sentHeader type field alias = header 1 type field alias
+
 -- CID and RID carry no data; AMD and AMR the Node ID.
 abbrev pub bare : ℕ → Frame
 bare h = record { kind = 0; header = h; len = 0; bytes = 0 }
@@ -146,22 +150,22 @@ abbrev pub cidField : (id sent : ℕ) → ℕ
 cidField id sent = numberOf sent * 2 ^ 12 + sectionOf id sent
 
 unfoldable pub cidFrame : (id alias sent : ℕ) → Frame
-cidFrame id a sent = bare (header 0 (cidField id sent) a)
+cidFrame id a sent = bare (sentHeader 0 (cidField id sent) a)
 
 unfoldable pub ridFrame : (alias : ℕ) → Frame
-ridFrame a = bare (header 0 0x0700 a)
+ridFrame a = bare (sentHeader 0 0x0700 a)
 
 unfoldable pub amdFrame : (id alias : ℕ) → Frame
-amdFrame id a = withId (header 0 0x0701 a) id
+amdFrame id a = withId (sentHeader 0 0x0701 a) id
 
 unfoldable pub amrFrame : (id alias : ℕ) → Frame
-amrFrame id a = withId (header 0 0x0703 a) id
+amrFrame id a = withId (sentHeader 0 0x0703 a) id
 
 -- The report is field 0x15B4, type 1. A.2: its data is 01 01 00 00 00 00 02 01.
 unfoldable pub reportFrame : (alias : ℕ) → Frame
 reportFrame a = record {
   kind = 0;
-  header = header 1 0x15B4 a;
+  header = sentHeader 1 0x15B4 a;
   len = 8;
   bytes = packed (0x01 ∷ 0x01 ∷ 0x00 ∷ 0x00 ∷ 0x00 ∷ 0x00 ∷ 0x02 ∷ 0x01 ∷ []);
 }
@@ -173,7 +177,7 @@ pub data Due : Type 0 where
 
 -- A.1: the error report, type 0, field 0x0710 and its number, carries the Node ID.
 unfoldable pub errorFrame : (number id alias : ℕ) → Frame
-errorFrame number id a = withId (header 0 (0x0710 + number) a) id
+errorFrame number id a = withId (sentHeader 0 (0x0710 + number) a) id
 
 abbrev pub errorDue : Error → (id alias : ℕ) → Due
 errorDue NoReport id a = nothing
@@ -185,8 +189,8 @@ errorDue Report3 id a = next (errorFrame 3 id a)
 -- The host frame is type 1 with a message's field and data, or an AME with an enquiry's data.
 abbrev pub hostDue : Host → (alias : ℕ) → Due
 hostDue Empty a = nothing
-hostDue (Message field len bytes) a = next (record { kind = 0; header = header 1 field a; len = len; bytes = bytes })
-hostDue (Enquiry len bytes) a = next (record { kind = 0; header = header 0 0x0702 a; len = len; bytes = bytes })
+hostDue (Message field len bytes) a = next (record { kind = 0; header = sentHeader 1 field a; len = len; bytes = bytes })
+hostDue (Enquiry len bytes) a = next (record { kind = 0; header = sentHeader 0 0x0702 a; len = len; bytes = bytes })
 
 -- A DELIVERED FRAME
 

@@ -9,8 +9,10 @@ use headers::node_id::Section;
 ghost use mathlib.Core.Path.{_≡_};
 ghost use mathlib.Core.Bool.{true};
 ghost use Prim.Native.Nat.{ℕ, _<_};
+ghost use Rattle.headers.specs.Answers.{typeOf};
 ghost use Rattle.state.specs.Answers.{dueAs};
 ghost use Rattle.state.specs.Rules.{
+  sentHeader,
   sectionOf,
   cidField,
   bare,
@@ -26,6 +28,13 @@ ghost use Rattle.state.specs.Rules.{
   errorDue,
   hostDue,
 };
+
+// The header of a frame that a node sends: its bit 28 is 1.
+fn sent_header(class: Type, field: u16, alias: Alias) -> u32
+    ensures { λ r. ⌜ r ≡ sentHeader (typeOf class) field (alias .0) ⌝ }
+{
+    headers::header::header_of(true, class, field, alias)
+}
 
 // A frame that carries no data.
 fn bare_frame(header: u32) -> Frame
@@ -87,25 +96,25 @@ fn cid_field(id: u64, sent: u8) -> u16
 pub fn cid(id: u64, alias: Alias, sent: u8) -> Frame
     ensures { λ r. ⌜ r ≡ cidFrame id (alias .0) sent ⌝ }
 {
-    bare_frame(headers::header::header_of(Type::Control, cid_field(id, sent), alias))
+    bare_frame(sent_header(Type::Control, cid_field(id, sent), alias))
 }
 
 pub fn rid(alias: Alias) -> Frame
     ensures { λ r. ⌜ r ≡ ridFrame (alias .0) ⌝ }
 {
-    bare_frame(headers::header::header_of(Type::Control, 0x0700, alias))
+    bare_frame(sent_header(Type::Control, 0x0700, alias))
 }
 
 pub fn amd(id: u64, alias: Alias) -> Frame
     ensures { λ r. ⌜ r ≡ amdFrame id (alias .0) ⌝ }
 {
-    id_frame(headers::header::header_of(Type::Control, 0x0701, alias), id)
+    id_frame(sent_header(Type::Control, 0x0701, alias), id)
 }
 
 pub fn amr(id: u64, alias: Alias) -> Frame
     ensures { λ r. ⌜ r ≡ amrFrame id (alias .0) ⌝ }
 {
-    id_frame(headers::header::header_of(Type::Control, 0x0703, alias), id)
+    id_frame(sent_header(Type::Control, 0x0703, alias), id)
 }
 
 // A.2: its data is an event number, which has eight bytes.
@@ -114,7 +123,7 @@ pub fn duplicate_report(alias: Alias) -> Frame
 {
     Frame {
         kind: 0,
-        header: headers::header::header_of(Type::Message, 0x15B4, alias),
+        header: sent_header(Type::Message, 0x15B4, alias),
         len: 8,
         bytes: 0x0101_0000_0000_0201,
     }
@@ -138,10 +147,7 @@ fn error_report(number: u16, id: u64, alias: Alias) -> Frame
     requires { ⌜ number < 4 ⌝ }
     ensures { λ r. ⌜ r ≡ errorFrame number id (alias .0) ⌝ }
 {
-    id_frame(
-        headers::header::header_of(Type::Control, 0x0710 + number, alias),
-        id,
-    )
+    id_frame(sent_header(Type::Control, 0x0710 + number, alias), id)
 }
 
 // The error report that waits, if one does.
@@ -162,13 +168,13 @@ pub fn host_due(h: Host, alias: Alias) -> Due
         Host::Empty => Due::Nothing,
         Host::Message { field, len, bytes } => Due::Next(Frame {
             kind: 0,
-            header: headers::header::header_of(Type::Message, field, alias),
+            header: sent_header(Type::Message, field, alias),
             len,
             bytes,
         }),
         Host::Enquiry { len, bytes } => Due::Next(Frame {
             kind: 0,
-            header: headers::header::header_of(Type::Control, 0x0702, alias),
+            header: sent_header(Type::Control, 0x0702, alias),
             len,
             bytes,
         }),

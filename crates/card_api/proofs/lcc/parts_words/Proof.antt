@@ -10,11 +10,15 @@ parts-words-spec =
     (λ c κs. search needs)
     (λ c κs. search needs)
     (λ c κs. search needs)
+    (λ c κs. search needs)
+    (λ c. search needs)
+    (λ c. search needs)
     (λ c. search needs)
     (λ c. search needs)
     (λ c. rw (
-      c .before .before .before .before .before .type-bit .ensures,
-      c .before .before .before .before .kind-code .ensures,
-      c .before .before .before .kind-number .ensures,
-      c .before .before .kind-section .ensures,
+      c .before .before .before .before .before .before .type-bit .ensures .0,
+      c .before .before .before .before .before .kind-code .ensures,
+      c .before .before .before .before .kind-number .ensures,
+      c .before .before .before .kind-section .ensures,
+      c .before .before .bit-28 .ensures .0,
     ) refl))

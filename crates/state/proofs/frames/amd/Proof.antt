@@ -9,4 +9,4 @@ amd-spec =
     tie.close (tie.spec
     (λ c κs. search needs)
     (λ c κs. search needs)
-    (λ c. simp (c .id-frame .ensures, c .before .header-of .ensures)))
+    (λ c. simp (c .id-frame .ensures, c .before .sent-header .ensures)))

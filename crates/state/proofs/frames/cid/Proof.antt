@@ -10,4 +10,4 @@ cid-spec =
     (λ c κs. search needs)
     (λ c κs. search needs)
     (λ c κs. search needs)
-    (λ c. simp (c .bare-frame .ensures, c .before .header-of .ensures, c .before .before .cid-field .ensures)))
+    (λ c. simp (c .bare-frame .ensures, c .before .sent-header .ensures, c .before .before .cid-field .ensures)))

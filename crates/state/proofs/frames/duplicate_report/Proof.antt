@@ -9,4 +9,4 @@ unfolding reportFrame
 duplicate-report-spec =
     tie.close (tie.spec
     (λ c κs. search needs)
-    (λ c. simp (c .header-of .ensures) refl))
+    (λ c. simp (c .sent-header .ensures) refl))

@@ -11,4 +11,4 @@ error-report-spec =
     (λ c. search needs)
     (λ c κs. search needs)
     (λ c κs. search needs)
-    (λ c. simp (c .id-frame .ensures, c .before .header-of .ensures) refl))
+    (λ c. simp (c .id-frame .ensures, c .before .sent-header .ensures) refl))

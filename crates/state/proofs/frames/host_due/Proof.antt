@@ -11,5 +11,5 @@ host-due-spec =
     (λ c. search needs)
     (λ c κs. search needs)
     (λ c. search needs)
-    (λ c. simp (c .header-of .ensures, c .before .before .h .given .1))
-    (λ c. simp (c .header-of2 .ensures, c .before .before .h2 .given .1)))
+    (λ c. simp (c .sent-header .ensures, c .before .before .h .given .1))
+    (λ c. simp (c .sent-header2 .ensures, c .before .before .h2 .given .1)))

@@ -9,4 +9,4 @@ rid-spec =
     tie.close (tie.spec
     (λ c κs. search needs)
     (λ c κs. search needs)
-    (λ c. simp (c .bare-frame .ensures, c .before .header-of .ensures)))
+    (λ c. simp (c .bare-frame .ensures, c .before .sent-header .ensures)))
