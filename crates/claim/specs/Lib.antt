@@ -4,3 +4,4 @@ pub mod Sharp
 pub mod Single
 pub mod Sight
 pub mod Bus
+pub mod Bit28

@@ -4,3 +4,4 @@ pub mod Looks
 pub mod Limits
 pub mod Examples
 pub mod LimitLaws
+pub mod Bit28

@@ -1,0 +1,243 @@
+-- A.5 over lists: whatever bit 28 foreign equipment sends, every answer and every node are the same, the inboxes are too but for
+-- that bit, and one list is kept where the other is. The first four definitions are to be believed.
+use mathlib.Core.Path.{_≡_, refl, sym, ap, subst, _∙_}
+use mathlib.Core.Bool.{Bool, true, false, not, cond, _&&_, _||_}
+use mathlib.Core.List.{List, [], _∷_, _++_}
+use Prim.Native.Nat.{ℕ, zero, suc}
+use lib.Dec.{ltb, eqb}
+use lib.ListN.{length}
+use Rattle.headers.specs.Bit28.{But28, itself, malformed-but-28, trimmed-but-28}
+use Rattle.headers.specs.declared.frame.Frame.{Frame}
+use Rattle.node.specs.Rules.{Answer, accepted, refused, refuse, Value, done, left, wait, isOff, tickOf, trimmed, onOrder, onLeave}
+use Rattle.node.specs.Bit28.{received-but-28}
+use Rattle.node.specs.declared.Node.{Node}
+use Rattle.segment_rules.specs.Rules.{
+  places,
+  inboxRoom,
+  Place,
+  Segment,
+  start,
+  Act,
+  orders,
+  delivers,
+  Command,
+  one,
+  send,
+  tick,
+  foreign,
+  roomBut,
+  isEmpty,
+  thenRoom,
+  indexed,
+  answerAt,
+  answer,
+  Effect,
+  stays,
+  becomes,
+  begins,
+  reads,
+  gets,
+  rest,
+  placeBy,
+  empties,
+  orderBy,
+  delivered,
+  effectAt,
+  sentBy,
+  effect,
+  stepBy,
+  step,
+  run,
+  answers,
+  Ages,
+  agesBy,
+  passes,
+  ageBy,
+  ticks,
+  oldAt,
+  old,
+  ageStep,
+  kept,
+  noAges,
+  isKept,
+}
+
+-- Two commands that are the same but for bit 28 of a foreign frame; and lists of such.
+pub data CommandsBut28 : Command → Command → Type 0 where
+  same : (c : Command) → CommandsBut28 c c
+  turned : {f g : Frame} → But28 f g → CommandsBut28 (foreign f) (foreign g)
+
+pub data ListsBut28 : List Command → List Command → Type 0 where
+  none : ListsBut28 [] []
+  more : {c d : Command} {cs ds : List Command} → CommandsBut28 c d → ListsBut28 cs ds → ListsBut28 (c ∷ cs) (d ∷ ds)
+
+-- Two inboxes whose frames differ in bit 28 alone, each and its like; and two places with the same node and such inboxes.
+pub data InboxesBut28 : List Frame → List Frame → Type 0 where
+  none : InboxesBut28 [] []
+  more : {f g : Frame} {fs gs : List Frame} → But28 f g → InboxesBut28 fs gs → InboxesBut28 (f ∷ fs) (g ∷ gs)
+
+pub record PlacesBut28 (p q : Place) : Type 0 where
+  pub node : p .node ≡ q .node
+  pub inbox : InboxesBut28 (p .inbox) (q .inbox)
+
+abbrev pub SegmentsBut28 : Segment → Segment → Type 0
+SegmentsBut28 S T = (k : ℕ) → PlacesBut28 (S .at k) (T .at k)
+
+-- INBOXES
+
+length-but-28 : {xs ys : List Frame} → InboxesBut28 xs ys → length xs ≡ length ys
+length-but-28 none = refl
+length-but-28 (more b r) = ap suc (length-but-28 r)
+
+empty-but-28 : {xs ys : List Frame} → InboxesBut28 xs ys → isEmpty xs ≡ isEmpty ys
+empty-but-28 none = refl
+empty-but-28 (more b r) = refl
+
+delivered-but-28 : (n : Node) {xs ys : List Frame} → InboxesBut28 xs ys → delivered xs n ≡ delivered ys n
+delivered-but-28 n none = refl
+delivered-but-28 n (more {f} {g} b r) = received-but-28 n f g b
+
+rest-but-28 : {xs ys : List Frame} → InboxesBut28 xs ys → InboxesBut28 (rest xs) (rest ys)
+rest-but-28 none = none
+rest-but-28 (more b r) = r
+
+join-but-28 : {f g : Frame} {xs ys : List Frame} → But28 f g → InboxesBut28 xs ys → InboxesBut28 (xs ++ f ∷ []) (ys ++ g ∷ [])
+join-but-28 b none = more b none
+join-but-28 b (more c r) = more c (join-but-28 b r)
+
+-- WHAT A COMMAND DOES AT A PLACE
+
+data EffectsBut28 : Effect → Effect → Type 0 where
+  same : (e : Effect) → EffectsBut28 e e
+  turned : {f g : Frame} → But28 f g → EffectsBut28 (gets f) (gets g)
+
+placed : {d e : Effect} → EffectsBut28 d e → (p q : Place) → PlacesBut28 p q → PlacesBut28 (placeBy d p) (placeBy e q)
+placed (same stays) p q h = h
+placed (same (becomes m)) p q h = record { node = refl; inbox = h .inbox }
+placed (same (begins m)) p q h = record { node = refl; inbox = none }
+placed (same (reads m)) p q h = record { node = refl; inbox = rest-but-28 (h .inbox) }
+placed (same (gets f)) p q h = record { node = h .node; inbox = join-but-28 (itself f) (h .inbox) }
+placed (turned b) p q h = record { node = h .node; inbox = join-but-28 b (h .inbox) }
+
+aged-by : {d e : Effect} → EffectsBut28 d e → (n m : Node) → n ≡ m → (g : Ages) → agesBy d n g ≡ agesBy e m g
+aged-by (same e) n m q g = ap (λ (x : Node). agesBy e x g) q
+aged-by (turned b) n m q g = refl
+
+sent-by : (a : Answer Value) (m : Node) (own : Bool) (p q : Place) → p .node ≡ q .node → sentBy a m own p ≡ sentBy a m own q
+sent-by (accepted (left f)) m own p q e = λ z. cond own (becomes m) (cond (isOff (e z .phase)) stays (gets f))
+sent-by (accepted done) m own p q e = refl
+sent-by (refused number) m own p q e = refl
+
+-- ONE COMMAND, on two such segments
+
+module _ (S T : Segment) (h : SegmentsBut28 S T) where
+  room-but-28 : (i n : ℕ) → roomBut i n S ≡ roomBut i n T
+  unfolding roomBut
+  room-but-28 i zero = refl
+  room-but-28 i (suc n) = λ z. (eqb n i || ltb (length-but-28 (h n .inbox) z) inboxRoom) && room-but-28 i n z
+
+  answered-at : (k : ℕ) (x : Act) → answerAt (S .at k) x ≡ answerAt (T .at k) x
+  answered-at k (orders x) = ap (λ (n : Node). onOrder wait n x .answer) (h k .node)
+  answered-at k delivers =
+      λ z. refuse (isOff (h k .node z .phase)) 2 (refuse (empty-but-28 (h k .inbox) z) 6 (accepted done))
+
+  answered-foreign : (f g : Frame) → But28 f g → answer S (foreign f) ≡ answer T (foreign g)
+  answered-foreign f g b =
+      λ z. refuse (malformed-but-28 f g b z) 9 (refuse (not (room-but-28 places places z)) 5 (accepted done))
+
+  answered : {c d : Command} → CommandsBut28 c d → answer S c ≡ answer T d
+  answered (same (one n x)) = ap (indexed n) (answered-at n x)
+  answered (same (send n)) = λ z. indexed n (thenRoom (onLeave wait (h n .node z) .answer) (room-but-28 n places z))
+  answered (same tick) = refl
+  answered (same (foreign f)) = answered-foreign f f (itself f)
+  answered (turned {f} {g} b) = answered-foreign f g b
+
+  effect-at : (k : ℕ) (x : Act) → effectAt (S .at k) x ≡ effectAt (T .at k) x
+  effect-at k (orders x) = ap (λ (n : Node). orderBy (empties x) (onOrder wait n x .node)) (h k .node)
+  effect-at k delivers =
+      ap reads (delivered-but-28 (S .at k .node) (h k .inbox) ∙ ap (delivered (T .at k .inbox)) (h k .node))
+
+  effect-of : (c : Command) (k : ℕ) → effect S c k ≡ effect T c k
+  effect-of (one n x) k = λ z. cond (eqb k n) (effect-at k x z) stays
+  effect-of (send n) k =
+      sent-by (onLeave wait (S .at n .node) .answer) (onLeave wait (S .at n .node) .node) (eqb k n) (S .at k) (T .at k) (h k .node)
+      ∙ ap (λ (m : Node). sentBy (onLeave wait m .answer) (onLeave wait m .node) (eqb k n) (T .at k)) (h n .node)
+  effect-of tick k = ap (λ (n : Node). becomes (tickOf wait n)) (h k .node)
+  effect-of (foreign f) k = ap (λ (n : Node). cond (isOff (n .phase)) stays (gets (trimmed f))) (h k .node)
+
+  effects : {c d : Command} → CommandsBut28 c d → (k : ℕ) → EffectsBut28 (effect S c k) (effect T d k)
+  effects (same c) k = subst (EffectsBut28 (effect S c k)) (effect-of c k) (same (effect S c k))
+  effects (turned {f} {g} b) k =
+      subst (λ (n : Node). EffectsBut28 (effect S (foreign f) k) (cond (isOff (n .phase)) stays (gets (trimmed g)))) (h k .node)
+      (go (isOff (S .at k .node .phase)))
+    where
+      go : (off : Bool) → EffectsBut28 (cond off stays (gets (trimmed f))) (cond off stays (gets (trimmed g)))
+      go true = same stays
+      go false = turned (trimmed-but-28 f g b)
+
+  stepped : {c d : Command} → CommandsBut28 c d → SegmentsBut28 (step S c) (step T d)
+  stepped {c} {d} b = subst (λ (a : Answer Value). SegmentsBut28 (step S c) (stepBy a T d)) (answered b) (by (answer S c))
+    where
+      either : (x : Bool) {p q p′ q′ : Place} → PlacesBut28 p q → PlacesBut28 p′ q′ → PlacesBut28 (cond x p p′) (cond x q q′)
+      either true u v = u
+      either false u v = v
+
+      by : (a : Answer Value) → SegmentsBut28 (stepBy a S c) (stepBy a T d)
+      by (accepted v) k = either (ltb k places) (placed (effects b k) (S .at k) (T .at k) (h k)) (h k)
+      by (refused number) k = h k
+
+  same-ticks : {c d : Command} → CommandsBut28 c d → ticks c ≡ ticks d
+  same-ticks (same c) = refl
+  same-ticks (turned b) = refl
+
+  aged-step : {c d : Command} → CommandsBut28 c d → (G : ℕ → Ages) → ageStep ticks S G c ≡ ageStep ticks T G d
+  aged-step {c} {d} b G = by (answer S c) ∙ (λ z. ageBy (same-ticks b z) (answered b z) T G d)
+    where
+      by : (a : Answer Value) → ageBy (ticks c) a S G c ≡ ageBy (ticks c) a T G d
+      by (accepted v) =
+          λ z k. cond (ltb k places)
+          (passes (ticks c) (placed (effects b k) (S .at k) (T .at k) (h k) .node z) (aged-by (effects b k) _ _ (h k .node) (G k) z))
+          (G k)
+      by (refused number) = refl
+
+  old-but-28 : (i o n : ℕ) (G : ℕ → Ages) → old i o n S G ≡ old i o n T G
+  unfolding old
+  old-but-28 i o zero G = refl
+  old-but-28 i o (suc n) G = λ z. oldAt i o (h n .node z) (G n) || old-but-28 i o n G z
+
+-- LISTS
+
+ran : (S T : Segment) → SegmentsBut28 S T → {cs ds : List Command} → ListsBut28 cs ds → SegmentsBut28 (run S cs) (run T ds)
+unfolding run
+ran S T h none = h
+ran S T h (more {c} {d} b r) = ran (step S c) (step T d) (stepped S T h b) r
+
+all-answered : (S T : Segment) → SegmentsBut28 S T → {cs ds : List Command} → ListsBut28 cs ds → answers S cs ≡ answers T ds
+unfolding answers
+all-answered S T h none = refl
+all-answered S T h (more {c} {d} b r) = λ z. answered S T h b z ∷ all-answered (step S c) (step T d) (stepped S T h b) r z
+
+all-kept : (i o : ℕ) (S T : Segment) → SegmentsBut28 S T → (G : ℕ → Ages) {cs ds : List Command} → ListsBut28 cs ds
+    → kept ticks i o S G cs ≡ kept ticks i o T G ds
+unfolding kept
+all-kept i o S T h G none = ap not (old-but-28 S T h i o places G)
+all-kept i o S T h G (more {c} {d} {cs} {ds} b r) =
+    let on = all-kept i o (step S c) (step T d) (stepped S T h b) (ageStep ticks S G c) r
+        ∙ ap (λ (H : ℕ → Ages). kept ticks i o (step T d) H ds) (aged-step S T h b G) in
+    λ z. not (old-but-28 S T h i o places G z) && on z
+
+-- What two such lists have in common, from all nodes Off.
+pub record RunsBut28 (cs ds : List Command) : Type 0 where
+  pub answers : answers start cs ≡ answers start ds
+  pub places : SegmentsBut28 (run start cs) (run start ds)
+  pub kept : (i o : ℕ) → isKept i o cs ≡ isKept i o ds
+
+pub ignores-28 : {cs ds : List Command} → ListsBut28 cs ds → RunsBut28 cs ds
+ignores-28 r = record {
+  answers = all-answered start start alike r;
+  places = ran start start alike r;
+  kept = λ i o. all-kept i o start start alike noAges r;
+}
+  where
+    alike : SegmentsBut28 start start
+    alike k = record { node = refl; inbox = none }
