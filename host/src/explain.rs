@@ -24,6 +24,32 @@ struct Ticks {
     late: Option<Late>,
 }
 
+/// How the words beside a line are painted.
+enum Tone {
+    Plain,
+    /// Of a refusal, or of what is late.
+    Wrong,
+    /// Of a frame that came with bit 28 as 0.
+    Marked,
+}
+
+impl Tone {
+    fn of(moment: &Moment) -> Tone {
+        if !moment.accepted() {
+            Tone::Wrong
+        } else if moment.has_bit_28_as_0() {
+            Tone::Marked
+        } else {
+            Tone::Plain
+        }
+    }
+
+    /// Late or not.
+    fn of_ages(late: &Option<Late>) -> Tone {
+        late.map_or(Tone::Plain, |_| Tone::Wrong)
+    }
+}
+
 pub struct Explain {
     paint: Paint,
     ticks: Option<Ticks>,
@@ -42,7 +68,7 @@ impl Explain {
             return self.tick(moment);
         }
         self.put_ticks();
-        self.put(&play::line(&moment.turn), &meaning(moment), moment.accepted());
+        self.put(&play::line(&moment.turn), &meaning(moment), Tone::of(moment));
     }
 
     /// The whole text, with the last line.
@@ -52,13 +78,17 @@ impl Explain {
             Some(late) => words::late(late),
             None => words::kept(),
         };
-        self.put(last, &why, self.late.is_none());
+        self.put(last, &why, Tone::of_ages(&self.late));
         self.text
     }
 
-    fn put(&mut self, line: &str, meaning: &str, good: bool) {
+    fn put(&mut self, line: &str, meaning: &str, tone: Tone) {
         let blanks = " ".repeat(COLUMN.saturating_sub(line.len()).max(2));
-        let meaning = if good { meaning.into() } else { self.paint.red(meaning) };
+        let meaning = match tone {
+            Tone::Plain => meaning.into(),
+            Tone::Wrong => self.paint.red(meaning),
+            Tone::Marked => self.paint.cyan(meaning),
+        };
         self.text += &format!("{}{blanks}{meaning}\n", self.paint.faint(line));
     }
 
@@ -93,7 +123,7 @@ impl Explain {
         if let Some(late) = &ticks.late {
             meaning += &format!("; {}", words::late(late));
         }
-        self.put(&line, &meaning, ticks.late.is_none());
+        self.put(&line, &meaning, Tone::of_ages(&ticks.late));
     }
 }
 

@@ -5,8 +5,8 @@ pub const EXTENDED: u8 = 0;
 pub const REMOTE: u8 = 1;
 pub const ELEVEN_BIT: u8 = 2;
 
-/// Bit 28, which is sent as 1, and bit 27, which a message has.
-const BIT_28: u32 = 1 << 28;
+/// The place of bit 28, which is sent as 1, though some equipment sends 0; and bit 27, which a message has.
+const BIT_28: u32 = 28;
 const MESSAGE: u32 = 1 << 27;
 const HEADER_MAX: u32 = (1 << 29) - 1;
 
@@ -67,7 +67,7 @@ impl Sort {
             Sort::Reserved(field) => (0, field),
             Sort::Message(field) => (MESSAGE, field),
         };
-        BIT_28 | kind | u32::from(field) << 12 | u32::from(alias)
+        1 << BIT_28 | kind | u32::from(field) << 12 | u32::from(alias)
     }
 
     /// Whether frames of this sort carry a Node ID as their data.
@@ -109,6 +109,21 @@ impl Frame {
     /// The alias of its sender.
     pub fn alias(&self) -> u16 {
         (self.header & 0xFFF) as u16
+    }
+
+    /// Whether a frame of its kind has bit 28: an extended frame and an extended remote one.
+    pub fn has_bit_28(&self) -> bool {
+        matches!(self.kind, EXTENDED | REMOTE)
+    }
+
+    /// Whether the tool marks it (request A.5): its header has 29 bits at most, and bit 28 of them as 0.
+    pub fn has_bit_28_as_0(&self) -> bool {
+        self.has_bit_28() && self.header >> BIT_28 == 0
+    }
+
+    /// The same with bit 28 as 0 or 1.
+    pub fn with_bit_28(self, bit: u8) -> Frame {
+        Frame { header: self.header & !(1 << BIT_28) | u32::from(bit) << BIT_28, ..self }
     }
 
     /// Whether it reports that a Node ID is there twice: by its field and by its data.

@@ -3,15 +3,18 @@
 
 pub mod actions;
 pub mod ages;
+pub mod bit_28;
 pub mod card;
 pub mod command;
 pub mod expand;
 pub mod explain;
+pub mod foreign;
 pub mod frame;
 pub mod hex;
 pub mod link;
 pub mod listing;
 pub mod names;
+pub mod operands;
 pub mod paint;
 pub mod picture;
 pub mod play;

@@ -21,6 +21,11 @@ impl Paint {
         self.put("32", text)
     }
 
+    /// For frames that came with bit 28 as 0.
+    pub fn cyan(self, text: &str) -> String {
+        self.put("36", text)
+    }
+
     pub fn faint(self, text: &str) -> String {
         self.put("2", text)
     }

@@ -85,13 +85,11 @@ fn foreign(frame: &Frame) -> String {
     }
 }
 
-/// By its sort, where that gives the header back; else by the header.
+/// By its sort, and bit 28 where that is 0; where the sort has no name, by the header.
 fn extended(frame: &Frame) -> String {
     let alias = frame.alias();
     let plain = format!("{:08X}{}", frame.header, data_text(frame.len, &frame.data, ""));
-    let Some(sort) = frame.sort().filter(|sort| sort.header(alias) == frame.header) else {
-        return plain;
-    };
+    let Some(sort) = frame.sort() else { return plain };
     let name = match sort {
         Sort::Cid(number, section) => format!("CID {number} {alias:03X} {section:03X}"),
         Sort::ErrorReport(number) => format!("error {number} {alias:03X}"),
@@ -100,7 +98,8 @@ fn extended(frame: &Frame) -> String {
         Sort::Rid | Sort::Amd | Sort::Ame | Sort::Amr => format!("{} {alias:03X}", sort.name()),
     };
     let points = if sort.carries_id() && frame.len == 6 { "." } else { "" };
-    name + &data_text(frame.len, &frame.data, points)
+    let bit_28 = if frame.has_bit_28_as_0() { " bit28 0" } else { "" };
+    name + &data_text(frame.len, &frame.data, points) + bit_28
 }
 
 /// The data that the length counts; where bytes past it are not 0, or it is above 8, as many as there are and the length.

@@ -1,7 +1,8 @@
-//! The table at the end of a run: a row for each exhibit, collisions, link states that were told, whether the list was kept, and
-//! how old frames became in it.
+//! The table at the end of a run: a row for each exhibit, collisions, link states that were told, whether the list was kept, how
+//! old frames became in it, and which came with bit 28 as 0.
 
 use crate::ages::Ages;
+use crate::bit_28::Bit28;
 use crate::card::{Card, Seen, State, PLACES};
 use crate::command::Command;
 use crate::frame::{Frame, Sort};
@@ -12,7 +13,7 @@ use crate::told::Told;
 use crate::watch::{Arrival, Late, Moment};
 use crate::words;
 
-/// Of collisions, and of link orders, so many are named one by one.
+/// Of collisions, of link orders, and of aliases with bit 28 as 0, so many are named one by one.
 const NAMED: usize = 10;
 
 /// When a node came to the alias that it has, and how often it started again.
@@ -41,13 +42,15 @@ impl Collision {
 
     pub fn words(&self) -> String {
         let Collision { index, tick, arrival, after } = self;
-        let frame = format!("{} of {}", words::short(&arrival.frame), words::sender(arrival.from));
-        let alias = arrival.frame.alias();
+        let Arrival { frame, from, .. } = arrival;
+        let whose = words::of_sender(frame, *from);
+        let name = words::short(frame) + words::bit_28(frame) + &whose;
+        let alias = frame.alias();
         let then = match after.state {
             State::Leaving => "it gives the alias up".into(),
             _ => format!("it starts again with {:03X}", after.alias),
         };
-        format!("node {index} at tick {tick}: {frame} has its alias {alias:03X}; {then}")
+        format!("node {index} at tick {tick}: {name} has its alias {alias:03X}; {then}")
     }
 }
 
@@ -63,6 +66,7 @@ pub struct Summary {
     frames: usize,
     late: Option<Late>,
     longest: Ages,
+    bit_28: Bit28,
 }
 
 impl Summary {
@@ -76,6 +80,7 @@ impl Summary {
         self.links.extend(Told::of(moment));
         self.late = self.late.or(moment.late);
         self.longest = moment.longest;
+        self.bit_28.note(moment);
         for (index, row) in self.rows.iter_mut().enumerate() {
             let (before, after) = (moment.before[index].state, moment.after[index].state);
             if moment.restarted(index) {
@@ -114,7 +119,7 @@ impl Summary {
             "{commands}, {refused} of them refused; {ticks}; {} on the bus.\n",
             words::count(frames, "frame", "frames")
         );
-        text + &self.verdict(paint) + "\n" + &self.ages_text(paint)
+        text + &self.verdict(paint) + "\n" + &self.ages_text(paint) + &self.bit_28_text(paint)
     }
 
     fn row(&self, from: usize, to: usize, seen: &Seen, paint: Paint) -> String {
@@ -187,6 +192,14 @@ impl Summary {
         let promise = self.longest.promise();
         let single = self.longest.keep_aliases_single();
         figures + &if single { paint.green(&promise) } else { paint.red(&promise) } + "\n"
+    }
+
+    /// Where no frame came with bit 28 as 0 there is nothing to say.
+    fn bit_28_text(&self, paint: Paint) -> String {
+        if self.bit_28.is_empty() {
+            return String::new();
+        }
+        named(&paint.cyan(&self.bit_28.words()), self.bit_28.aliases())
     }
 }
 

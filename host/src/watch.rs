@@ -142,6 +142,13 @@ impl Moment {
         }
     }
 
+    /// Whether its frame, one that came onto the bus or was delivered, has bit 28 as 0.
+    pub fn has_bit_28_as_0(&self) -> bool {
+        let on_the_bus = self.on_the_bus().map(|(frame, _)| frame);
+        let frame = on_the_bus.or(self.delivered.map(|arrival| arrival.frame));
+        frame.is_some_and(|frame| frame.has_bit_28_as_0())
+    }
+
     /// How many inboxes have a frame more.
     pub fn joined(&self) -> usize {
         (0..PLACES).filter(|&i| self.after[i].inbox > self.before[i].inbox).count()

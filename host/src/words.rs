@@ -11,8 +11,21 @@ pub fn kept() -> String {
     format!("no frame has stood in an inbox, and no reply RID or AMR has waited, for more than {KEPT} ticks")
 }
 
-/// What a frame is: its sort, its alias, what it carries.
+/// What a frame is: its sort, its alias, what it carries, and bit 28 where that is 0.
 pub fn frame(frame: &Frame) -> String {
+    what(frame) + bit_28(frame)
+}
+
+/// What is said of a frame with bit 28 as 0, behind all else that is said of it.
+pub fn bit_28(frame: &Frame) -> &'static str {
+    if frame.has_bit_28_as_0() {
+        ", bit 28 as 0"
+    } else {
+        ""
+    }
+}
+
+fn what(frame: &Frame) -> String {
     let data = with_data(frame);
     let header = frame.header;
     let Some(sort) = frame.sort() else {
@@ -77,6 +90,12 @@ pub fn standing(seen: &Seen) -> String {
         State::Testing => format!("Testing alias {:03X}", seen.alias),
         state => format!("{} with alias {:03X}", state.name(), seen.alias),
     }
+}
+
+/// Whose frame it is, behind what is said of it.
+pub fn of_sender(frame: &Frame, from: Sender) -> String {
+    let comma = if bit_28(frame).is_empty() { "" } else { "," };
+    format!("{comma} of {}", sender(from))
 }
 
 pub fn sender(from: Sender) -> String {

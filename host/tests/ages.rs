@@ -1,15 +1,11 @@
 //! The greatest ages of a list: what they are for the examples at the limits of request A.3, and what the summary says of them.
 
 mod examples;
+mod shown;
 
 use examples::example;
 use lcc::ages::Ages;
-use lcc::card::Card;
-use lcc::expand::expand;
-use lcc::paint::Paint;
-use lcc::summary::Summary;
-use lcc::watch::Watch;
-use lcc::{play, script};
+use shown::{shown, Shown};
 
 /// The examples just beyond the limits, with the ages of their names.
 const BEYOND: [(&str, usize, usize); 3] =
@@ -17,15 +13,8 @@ const BEYOND: [(&str, usize, usize); 3] =
 
 /// The greatest ages of a script, and its summary.
 fn played(text: &str) -> (Ages, String) {
-    let script = expand(&script::parse(text).expect("it is right"));
-    let (mut card, mut watch) = (Card::new(), Watch::default());
-    let (mut summary, mut longest) = (Summary::default(), Ages::default());
-    play::play(&script.bytes, &script.links, &mut card, |turn, card| {
-        let moment = watch.look(turn, card);
-        summary.note(&moment);
-        longest = moment.longest;
-    });
-    (longest, summary.text(&card, Paint(false)))
+    let Shown { longest, summary, .. } = shown(text);
+    (longest, summary)
 }
 
 const UP: &str = "on 0 050101010101\nsettle 204\nsend 0\nsend 0\n";

@@ -120,39 +120,72 @@ fn link_orders_have_no_byte() {
 }
 
 /// Each command's form, and the bytes that document 01 gives it.
+const FORMS: [(&str, &str); 35] = [
+    ("on 0 05.01.01.01.01.01", "01 00 05 01 01 01 01 01"),
+    ("send 0", "02 00"),
+    ("fail 23", "03 17"),
+    ("deliver 255", "04 FF"),
+    ("tick", "05"),
+    ("tick 3", "05 05 05"),
+    ("foreign AMD 263 05.01.01.01.01.01", "06 00 10 70 12 63 06 05 01 01 01 01 01 00 00"),
+    ("foreign 17050263", "06 00 17 05 02 63 00 00 00 00 00 00 00 00 00"),
+    ("foreign CID 7 263 050", "06 00 17 05 02 63 00 00 00 00 00 00 00 00 00"),
+    ("foreign RID 263", "06 00 10 70 02 63 00 00 00 00 00 00 00 00 00"),
+    ("foreign AME 263", "06 00 10 70 22 63 00 00 00 00 00 00 00 00 00"),
+    ("foreign AMR 1 050101010101", "06 00 10 70 30 01 06 05 01 01 01 01 01 00 00"),
+    ("foreign error 3 263", "06 00 10 71 32 63 00 00 00 00 00 00 00 00 00"),
+    ("foreign message 15B4 263 07", "06 00 19 5B 42 63 01 07 00 00 00 00 00 00 00"),
+    ("foreign remote 17050263", "06 01 17 05 02 63 00 00 00 00 00 00 00 00 00"),
+    ("foreign short 123 0707", "06 02 00 00 01 23 02 07 07 00 00 00 00 00 00"),
+    ("foreign kind 3 17050263 01 length 9", "06 03 17 05 02 63 09 01 00 00 00 00 00 00 00"),
+    ("foreign RID 263 bit28 0", "06 00 00 70 02 63 00 00 00 00 00 00 00 00 00"),
+    ("foreign RID 263 bit28 1", "06 00 10 70 02 63 00 00 00 00 00 00 00 00 00"),
+    ("foreign CID 7 263 bit28 0", "06 00 07 00 02 63 00 00 00 00 00 00 00 00 00"),
+    ("foreign AMD 263 01 length 9 bit28 0", "06 00 00 70 12 63 09 01 00 00 00 00 00 00 00"),
+    ("foreign AMD 263 01 BIT28 0 length 9", "06 00 00 70 12 63 09 01 00 00 00 00 00 00 00"),
+    ("foreign 10704263 bit28 0", "06 00 00 70 42 63 00 00 00 00 00 00 00 00 00"),
+    ("foreign remote 07050263 bit28 1", "06 01 17 05 02 63 00 00 00 00 00 00 00 00 00"),
+    ("foreign kind 1 17050263 bit28 0", "06 01 07 05 02 63 00 00 00 00 00 00 00 00 00"),
+    ("message 0 15B4 01020304", "07 00 15 B4 04 01 02 03 04 00 00 00 00"),
+    ("message 0 5B4 AB CD length 1", "07 00 05 B4 01 AB CD 00 00 00 00 00 00"),
+    ("enquiry 0", "08 00 00 00 00 00 00 00 00"),
+    ("enquiry 0 05.01.01.01.01.02", "08 00 06 05 01 01 01 01 02"),
+    ("enquiry 0 05.01.01.01.01.02 length 5", "08 00 05 05 01 01 01 01 02"),
+    ("release 0", "09 00"),
+    ("bytes FF 01", "FF 01"),
+    ("send all", ""),
+    ("deliver all", ""),
+    ("settle 2", "05 05"),
+];
+
 #[test]
 fn each_form_has_its_bytes() {
-    let forms = [
-        ("on 0 05.01.01.01.01.01", "01 00 05 01 01 01 01 01"),
-        ("send 0", "02 00"),
-        ("fail 23", "03 17"),
-        ("deliver 255", "04 FF"),
-        ("tick", "05"),
-        ("tick 3", "05 05 05"),
-        ("foreign AMD 263 05.01.01.01.01.01", "06 00 10 70 12 63 06 05 01 01 01 01 01 00 00"),
-        ("foreign 17050263", "06 00 17 05 02 63 00 00 00 00 00 00 00 00 00"),
-        ("foreign CID 7 263 050", "06 00 17 05 02 63 00 00 00 00 00 00 00 00 00"),
-        ("foreign RID 263", "06 00 10 70 02 63 00 00 00 00 00 00 00 00 00"),
-        ("foreign AME 263", "06 00 10 70 22 63 00 00 00 00 00 00 00 00 00"),
-        ("foreign AMR 1 050101010101", "06 00 10 70 30 01 06 05 01 01 01 01 01 00 00"),
-        ("foreign error 3 263", "06 00 10 71 32 63 00 00 00 00 00 00 00 00 00"),
-        ("foreign message 15B4 263 07", "06 00 19 5B 42 63 01 07 00 00 00 00 00 00 00"),
-        ("foreign remote 17050263", "06 01 17 05 02 63 00 00 00 00 00 00 00 00 00"),
-        ("foreign short 123 0707", "06 02 00 00 01 23 02 07 07 00 00 00 00 00 00"),
-        ("foreign kind 3 17050263 01 length 9", "06 03 17 05 02 63 09 01 00 00 00 00 00 00 00"),
-        ("message 0 15B4 01020304", "07 00 15 B4 04 01 02 03 04 00 00 00 00"),
-        ("message 0 5B4 AB CD length 1", "07 00 05 B4 01 AB CD 00 00 00 00 00 00"),
-        ("enquiry 0", "08 00 00 00 00 00 00 00 00"),
-        ("enquiry 0 05.01.01.01.01.02", "08 00 06 05 01 01 01 01 02"),
-        ("enquiry 0 05.01.01.01.01.02 length 5", "08 00 05 05 01 01 01 01 02"),
-        ("release 0", "09 00"),
-        ("bytes FF 01", "FF 01"),
-        ("send all", ""),
-        ("deliver all", ""),
-        ("settle 2", "05 05"),
-    ];
-    for (name, hex) in forms {
+    for (name, hex) in FORMS {
         assert_eq!(bytes_of(name), bytes_of(hex), "{name}");
+    }
+}
+
+/// A foreign frame with bit 28 as 0, and how `names` prints it: by its sort where that has a name.
+#[test]
+fn frames_with_bit_28_as_0_are_spelt_by_their_sort() {
+    let lines = [
+        ("foreign 00700263", "foreign RID 263 bit28 0\n"),
+        ("foreign 07050263", "foreign CID 7 263 050 bit28 0\n"),
+        ("foreign 00711000", "foreign error 1 000 bit28 0\n"),
+        ("foreign 095B4263 07", "foreign message 15B4 263 07 bit28 0\n"),
+        ("foreign 00701263 010203040506", "foreign AMD 263 01.02.03.04.05.06 bit28 0\n"),
+        ("foreign 00702263 01 length 9", "foreign AME 263 01 length 9 bit28 0\n"),
+        ("foreign RID 263 bit28 1", "foreign RID 263\n"),
+        ("foreign 00704263", "foreign 00704263\n"),
+        ("foreign 20700263", "foreign 20700263\n"),
+        ("foreign remote 17050263 bit28 0", "foreign remote 07050263\n"),
+        ("foreign short 123", "foreign short 123\n"),
+    ];
+    for (line, printed) in lines {
+        let bytes = bytes_of(line);
+        assert_eq!(spell::script(&bytes, &[]), printed);
+        assert_eq!(bytes_of(printed), bytes, "{line}");
+        assert!(listing::listing(&bytes).ends_with(&format!(" # {printed}")), "{line}");
     }
 }
 
@@ -181,7 +214,7 @@ fn all_goes_by_link_orders_too() {
 }
 
 /// Lines that are wrong, and what is said of each.
-const WRONG: [(&str, &str); 54] = [
+const WRONG: [(&str, &str); 69] = [
     ("sned 0", "\"sned\" is no command; expected one of on, send"),
     ("on", "the index is missing; expected a whole number from 0 to 255"),
     ("on 0", "the Node ID is missing; expected six bytes in hex, as 05.01.01.01.01.01"),
@@ -223,6 +256,30 @@ const WRONG: [(&str, &str); 54] = [
     ("foreign 17050263 01 length", "the length is missing"),
     ("foreign 17050263 01 length 256", "\"256\" is no length"),
     ("foreign 17050263 01..02", "\"01..02\" is no data"),
+    (
+        "foreign RID 263 bit28",
+        "the bit is missing; expected 0 or 1; the form is: foreign FRAME [length N] [bit28 BIT]",
+    ),
+    ("foreign RID 263 bit28 2", "\"2\" is no bit; expected 0 or 1"),
+    ("foreign RID 263 bit28 bit28 0", "\"bit28\" is no bit; expected 0 or 1"),
+    ("foreign RID 263 bit28 0 bit28 0", "bit28 is there twice; expected it once"),
+    ("foreign RID 263 bit28 0 length 9 bit28 1", "bit28 is there twice; expected it once"),
+    ("foreign RID 263 length 9 bit28 0 length 9", "length is there twice; expected it once"),
+    ("foreign RID 263 bit28 0 01", "\"01\" is too much; the form is: foreign FRAME"),
+    ("foreign RID 263 bit 28 0", "\"bit\" is no data"),
+    ("foreign RID bit28 0", "\"bit28\" is no alias"),
+    ("foreign bit28 0", "\"bit28\" is no frame"),
+    (
+        "foreign short 123 bit28 0",
+        "an eleven-bit frame has no bit 28; expected bit28 on an extended frame or a remote one",
+    ),
+    ("foreign kind 3 17050263 bit28 1", "a frame of kind 3 has no bit 28; expected bit28 on an"),
+    (
+        "send 0 bit28 0",
+        "bit28 is for foreign frames alone: nodes send bit 28 as 1; the form is: send INDEX",
+    ),
+    ("message 0 15B4 01 bit28 0", "bit28 is for foreign frames alone"),
+    ("enquiry 0 bit28 0", "bit28 is for foreign frames alone"),
     ("message 0", "the field is missing; expected 1 to 4 hex digits"),
     ("message 0 15B45", "\"15B45\" is no field"),
     ("message 0 15B4 0", "\"0\" is no data"),
@@ -346,7 +403,7 @@ fn forms_are_told_apart() {
 fn any_text_is_read_or_refused() {
     let words = [
         "on", "send", "foreign", "AMD", "CID", "all", "length", "0", "7", "263", "05.01", "FF",
-        "é", "#", "\n", "bytes", "-1", ".", "link", "off",
+        "é", "#", "\n", "bytes", "-1", ".", "link", "off", "bit28",
     ];
     let mut random = Random::new(7);
     let (mut read, mut refused) = (0, 0);

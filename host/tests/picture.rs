@@ -3,34 +3,15 @@
 mod examples;
 mod places;
 mod random;
+mod shapes;
+mod shown;
 
 use examples::{example, names};
-use lcc::card::Card;
-use lcc::expand::expand;
-use lcc::picture::{draw, Record};
-use lcc::watch::Watch;
-use lcc::{play, script};
-use places::{number, Place};
+use places::{are_apart, number, places, Place};
+use shapes::{of_class, titles};
 
 fn drawn(text: &str) -> String {
-    let script = expand(&script::parse(text).expect("it is right"));
-    let (mut card, mut watch, mut record) = (Card::new(), Watch::default(), Record::default());
-    play::play(&script.bytes, &script.links, &mut card, |turn, card| {
-        record.note(&watch.look(turn, card))
-    });
-    draw(&record, "drawn", play::last_line(&card))
-}
-
-/// The shapes and texts of a class.
-fn of_class<'a>(picture: &'a str, class: &str) -> Vec<&'a str> {
-    let class = format!(" class=\"{class}\"");
-    picture.lines().filter(|line| line.contains(&class)).collect()
-}
-
-/// What a shape says where the pointer rests on it.
-fn titles<'a>(picture: &'a str, class: &str) -> Vec<&'a str> {
-    let title = |line: &'a str| Some(line.split_once("<title>")?.1.split_once("</title>")?.0);
-    of_class(picture, class).into_iter().filter_map(title).collect()
+    shown::shown(text).picture
 }
 
 /// The words that are written in a class.
@@ -206,21 +187,6 @@ fn labels(picture: &str) -> Vec<Label<'_>> {
         Some(Label { class, place: Place::of_rect(lines[at - 1]), at })
     };
     (1..lines.len()).filter_map(label).collect()
-}
-
-/// The places of all shapes and texts of some classes.
-fn places(picture: &str, classes: &[&str]) -> Vec<Place> {
-    let all = classes.iter().flat_map(|class| of_class(picture, class));
-    all.flat_map(Place::all_of).collect()
-}
-
-/// No two of some places meet, nor any of them one of the others.
-fn are_apart(places: &[Place], others: &[Place], list: &str) {
-    for (at, place) in places.iter().enumerate() {
-        for other in places[..at].iter().chain(others) {
-            assert!(!place.meets(other), "{place:?} {other:?}:\n{list}");
-        }
-    }
 }
 
 const LINES: [&str; 2] = ["stood", "waited"];

@@ -203,7 +203,7 @@ const FRAMES: [(&str, &str); 22] = [
     ),
     ("foreign error 2 263", "error report 2 (Error Active after Error Passive), alias 263:"),
     ("foreign error 3 263", "error report 3 (Error Active after Bus Off), alias 263:"),
-    ("foreign 00700263", "RID, alias 263:"),
+    ("foreign 00700263", "RID, alias 263, bit 28 as 0:"),
     ("foreign FFFFFFFF", "frame FFFFFFFF, above 29 bits: refused, an operand is out of range"),
     (
         "foreign 10701263 01 length 9",

@@ -140,6 +140,7 @@ impl Page<'_> {
     /// The signs that not every drawing has.
     fn drawn_besides(&self) -> Signs {
         Signs {
+            bit_28: self.record.frames.iter().any(|on_bus| on_bus.frame.has_bit_28_as_0()),
             links: !self.record.links.is_empty(),
             lines: LineSort::all_of(self.lines.iter()),
             shared: !self.record.shared.is_empty(),
@@ -353,8 +354,12 @@ impl Page<'_> {
         if !self.record.shared.is_empty() {
             y += shared::HEIGHT;
         }
-        for pair in collisions[..collisions.len().min(TOLD)].chunks(2) {
-            for ((_, collision), x) in pair.iter().zip([MARGIN, WIDTH / 2.0]) {
+        let told = &collisions[..collisions.len().min(TOLD)];
+        // Words on bit 28 are too long for half a page.
+        let is_long = told.iter().any(|(_, collision)| collision.arrival.frame.has_bit_28_as_0());
+        let columns: &[f64] = if is_long { &[MARGIN] } else { &[MARGIN, WIDTH / 2.0] };
+        for row in told.chunks(columns.len()) {
+            for ((_, collision), x) in row.iter().zip(columns) {
                 svg.cross(x + 6.0, y - 3.5, 3.2);
                 svg.text(x + 18.0, y, "", Anchor::Start, &collision.words());
             }

@@ -10,6 +10,8 @@ use crate::watch::Sender;
 use crate::words;
 
 pub const LANE: f64 = 11.0;
+/// Half the width and half the height of a frame that came with bit 28 as 0.
+const DIAMOND: (f64, f64) = (4.2, 5.0);
 
 /// The lanes' names from top to bottom, those alone of which a frame was seen.
 pub struct Lanes {
@@ -49,8 +51,22 @@ impl Lanes {
             svg.line((axis.left, y), (axis.right, y), "lane");
             svg.text(axis.left - 8.0, y + 3.2, "small", Anchor::End, name);
         }
+        // Frames with bit 28 as 0 lie over the others, so that none of them is covered.
+        for as_0 in [false, true] {
+            let frames = record.frames.iter().filter(|f| f.frame.has_bit_28_as_0() == as_0);
+            self.marks(svg, frames, axis, hits);
+        }
+    }
+
+    fn marks<'a>(
+        &self,
+        svg: &mut Svg,
+        frames: impl Iterator<Item = &'a OnBus>,
+        axis: &Axis,
+        hits: &HashSet<usize>,
+    ) {
         let mut last = (f64::MIN, f64::MIN);
-        for on_bus in &record.frames {
+        for on_bus in frames {
             let place = (axis.at(on_bus.count), self.middle(&on_bus.frame));
             let hit = hits.contains(&on_bus.count);
             // Marks that would cover one another are drawn once.
@@ -63,12 +79,12 @@ impl Lanes {
 }
 
 fn mark(svg: &mut Svg, on_bus: &OnBus, (x, y): (f64, f64), hit: bool) {
-    let title = format!(
-        "{} of {}, command {}",
-        words::frame(&on_bus.frame),
-        words::sender(on_bus.from),
-        on_bus.count
-    );
+    let OnBus { count, frame, from } = on_bus;
+    let whose = words::of_sender(frame, *from);
+    let title = format!("{}{whose}, command {count}", words::frame(frame));
+    if frame.has_bit_28_as_0() {
+        return diamond(svg, (x, y), if hit { "bit28-hit" } else { "bit28" }, &title);
+    }
     let (half, high) = (if hit { 1.6 } else { 1.0 }, LANE - 3.0);
     let place = [x - half, y - high / 2.0, 2.0 * half, high];
     match (on_bus.from, hit) {
@@ -79,6 +95,12 @@ fn mark(svg: &mut Svg, on_bus: &OnBus, (x, y): (f64, f64), hit: bool) {
             svg.rect_with([x - 2.5, y - 4.0, 5.0, 8.0], "foreign-hit", &title)
         }
     }
+}
+
+/// A frame that came with bit 28 as 0.
+pub fn diamond(svg: &mut Svg, (x, y): (f64, f64), class: &str, title: &str) {
+    let (wide, high) = DIAMOND;
+    svg.shape_with(&[(x, y - high), (x + wide, y), (x, y + high), (x - wide, y)], class, title);
 }
 
 /// The order of lanes: the way of an alias from CID 7 on, then messages, then frames without effect.

@@ -1,6 +1,7 @@
 //! What the signs of a drawing mean.
 
 use super::draw::fold_mark;
+use super::lanes;
 use super::overdue::LineSort;
 use super::shared;
 use super::style::class_of;
@@ -14,6 +15,8 @@ const ROW: f64 = 20.0;
 
 /// Which signs are drawn besides those of every drawing.
 pub struct Signs {
+    /// Frames that came with bit 28 as 0.
+    pub bit_28: bool,
     pub links: bool,
     /// The sorts of lines of what was overdue.
     pub lines: Vec<LineSort>,
@@ -26,8 +29,8 @@ impl Signs {
     }
 }
 
-/// Two rows: the states, then the other signs; one more where link orders are drawn, and one where something was overdue. Gives how
-/// high they are.
+/// Two rows: the states, then the other signs; one more where frames came with bit 28 as 0, one where link orders are drawn, and one
+/// where something was overdue. Gives how high they are.
 pub fn draw(svg: &mut Svg, left: f64, top: f64, drawn: &Signs) -> f64 {
     let mut x = left;
     for state in &State::ALL[1..] {
@@ -44,6 +47,10 @@ pub fn draw(svg: &mut Svg, left: f64, top: f64, drawn: &Signs) -> f64 {
     );
     signs(svg, left, top + 30.0);
     let mut below = 0.0;
+    if drawn.bit_28 {
+        below += ROW;
+        bit_28_sign(svg, left, top + 30.0 + below);
+    }
     if drawn.links {
         below += ROW;
         link_signs(svg, left, top + 30.0 + below);
@@ -68,6 +75,12 @@ fn overdue_signs(svg: &mut Svg, left: f64, y: f64, drawn: &Signs) {
         shared::sign(svg, x + 6.0, y, 2, "two nodes come to use one alias");
         svg.text(x + 18.0, y + 4.0, "", Anchor::Start, "two nodes come to use one alias");
     }
+}
+
+fn bit_28_sign(svg: &mut Svg, left: f64, y: f64) {
+    let text = "foreign frame that came with bit 28 as 0";
+    lanes::diamond(svg, (left + 8.0, y), "bit28", text);
+    svg.text(left + 20.0, y + 4.0, "", Anchor::Start, text);
 }
 
 /// The sign of a link order, with the letter of the link state.

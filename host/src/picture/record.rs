@@ -38,7 +38,7 @@ pub struct Overdue {
     pub end: Option<(usize, usize)>,
 }
 
-/// The room of what collided, and of a link order, beside that of a frame on the bus.
+/// The room of what collided, of a frame that came with bit 28 as 0, and of a link order, beside that of another frame on the bus.
 const WIDE: f64 = 3.0;
 
 #[derive(Default)]
@@ -144,7 +144,7 @@ fn is_new_band(moment: &Moment, index: usize) -> bool {
 fn weight(moment: &Moment) -> f64 {
     match moment.command() {
         Some(Command::On { .. }) => 0.3,
-        _ if moment.link().is_some() => WIDE,
+        _ if moment.link().is_some() || moment.has_bit_28_as_0() => WIDE,
         _ => 1.0,
     }
 }

@@ -23,9 +23,21 @@ pub fn is_dark(state: State) -> bool {
 
 /// What stands before the shapes besides, for signs that not every drawing has.
 pub fn styles(drawn: &Signs) -> String {
-    let parts = [(drawn.links, LINK), (drawn.overdue(), OVERDUE), (drawn.shared, SHARED)];
+    let parts = [
+        (drawn.bit_28, BIT_28),
+        (drawn.links, LINK),
+        (drawn.overdue(), OVERDUE),
+        (drawn.shared, SHARED),
+    ];
     parts.iter().filter(|(is_drawn, _)| *is_drawn).map(|(_, style)| *style).collect()
 }
+
+/// Of frames that came with bit 28 as 0, which have another shape than others too.
+const BIT_28: &str = r##"<style>
+.bit28 { fill: #00b4d0; stroke: #222; stroke-width: 1; }
+.bit28-hit { fill: #00b4d0; stroke: #c00020; stroke-width: 1.4; }
+</style>
+"##;
 
 const LINK: &str = r##"<style>
 .link { fill: #fff; stroke: #111; stroke-width: 1.2; }

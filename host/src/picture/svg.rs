@@ -27,6 +27,12 @@ pub fn escaped(text: &str) -> String {
     text.chars().map(|c| if c.is_control() { '?' } else { c }).collect()
 }
 
+/// Places, one after another.
+fn points(places: &[(f64, f64)]) -> String {
+    let points = places.iter().map(|&(x, y)| format!("{},{}", number(x), number(y)));
+    points.collect::<Vec<_>>().join(" ")
+}
+
 impl Svg {
     pub fn rect(&mut self, x: f64, y: f64, width: f64, height: f64, class: &str) {
         let (x, y, width, height) = (number(x), number(y), number(width), number(height));
@@ -50,10 +56,17 @@ impl Svg {
             &format!("<line x1=\"{x1}\" y1=\"{y1}\" x2=\"{x2}\" y2=\"{y2}\" class=\"{class}\"/>\n");
     }
 
-    pub fn path(&mut self, points: &[(f64, f64)], class: &str) {
-        let points: Vec<String> =
-            points.iter().map(|&(x, y)| format!("{},{}", number(x), number(y))).collect();
-        self.body += &format!("<polyline points=\"{}\" class=\"{class}\"/>\n", points.join(" "));
+    pub fn path(&mut self, places: &[(f64, f64)], class: &str) {
+        let points = points(places);
+        self.body += &format!("<polyline points=\"{points}\" class=\"{class}\"/>\n");
+    }
+
+    /// A shape with these corners that says more where the pointer rests on it.
+    pub fn shape_with(&mut self, corners: &[(f64, f64)], class: &str, title: &str) {
+        let (points, title) = (points(corners), escaped(title));
+        self.body += &format!(
+            "<polygon points=\"{points}\" class=\"{class}\"><title>{title}</title></polygon>\n"
+        );
     }
 
     pub fn circle(&mut self, x: f64, y: f64, radius: f64, class: &str) {

@@ -1,5 +1,7 @@
 //! Where the shapes and texts of a drawing stand.
 
+use crate::shapes::of_class;
+
 /// An attribute of a shape that is a number.
 pub fn number(shape: &str, name: &str) -> f64 {
     attribute(shape, name).parse().expect("a number")
@@ -8,6 +10,30 @@ pub fn number(shape: &str, name: &str) -> f64 {
 fn attribute<'a>(shape: &'a str, name: &str) -> &'a str {
     let (_, rest) = shape.split_once(&format!(" {name}=\"")).expect("it has that attribute");
     rest.split_once('"').expect("it ends").0
+}
+
+/// The places that a path or a shape leads by.
+fn points(path: &str) -> Vec<(f64, f64)> {
+    let points = attribute(path, "points").split(' ').map(|point| {
+        let (x, y) = point.split_once(',').expect("across and down");
+        (x.parse().expect("a number"), y.parse().expect("a number"))
+    });
+    points.collect()
+}
+
+/// The places of all shapes and texts of some classes.
+pub fn places(picture: &str, classes: &[&str]) -> Vec<Place> {
+    let all = classes.iter().flat_map(|class| of_class(picture, class));
+    all.flat_map(Place::all_of).collect()
+}
+
+/// No two of some places meet, nor any of them one of the others.
+pub fn are_apart(places: &[Place], others: &[Place], list: &str) {
+    for (at, place) in places.iter().enumerate() {
+        for other in places[..at].iter().chain(others) {
+            assert!(!place.meets(other), "{place:?} {other:?}:\n{list}");
+        }
+    }
 }
 
 /// From where to where a shape or a text goes, across and down.
@@ -29,6 +55,7 @@ impl Place {
                 (number(line, "x2"), number(line, "y2")),
             )],
             Some("<polyline") => Place::of_path(line),
+            Some("<polygon") => vec![Place::of_shape(line)],
             Some("<circle") => {
                 let (x, y, r) = (number(line, "cx"), number(line, "cy"), number(line, "r"));
                 vec![Place::around((x - r, y - r), (x + r, y + r))]
@@ -53,12 +80,19 @@ impl Place {
     }
 
     fn of_path(path: &str) -> Vec<Place> {
-        let points = attribute(path, "points").split(' ').map(|point| {
-            let (x, y) = point.split_once(',').expect("across and down");
-            (x.parse().expect("a number"), y.parse().expect("a number"))
-        });
-        let points: Vec<(f64, f64)> = points.collect();
-        points.windows(2).map(|ends| Place::around(ends[0], ends[1])).collect()
+        points(path).windows(2).map(|ends| Place::around(ends[0], ends[1])).collect()
+    }
+
+    /// Around all corners of a shape.
+    fn of_shape(shape: &str) -> Place {
+        let corners = points(shape).into_iter().map(|corner| Place::around(corner, corner));
+        let both = |one: Place, other: Place| Place {
+            left: one.left.min(other.left),
+            right: one.right.max(other.right),
+            top: one.top.min(other.top),
+            bottom: one.bottom.max(other.bottom),
+        };
+        corners.reduce(both).expect("a shape has corners")
     }
 
     /// About so wide and high are the letters of each class.

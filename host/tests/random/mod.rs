@@ -220,21 +220,27 @@ fn length(random: &mut Random) -> String {
     }
 }
 
+/// An end of a foreign frame that is extended or remote.
+fn bit_28(random: &mut Random) -> &'static str {
+    random.pick(&["", "", "", " bit28 0", " BIT28 0", " bit28 1"])
+}
+
 fn frame(random: &mut Random) -> String {
     let alias = alias(random);
     let data = data(random);
+    let bit = bit_28(random);
     let header =
         random.pick(&["17050263", "00700263", "195B4262", "FFFFFFFF", "10704263", "00000000"]);
     match random.below(10) {
-        0 => format!("CID {} {alias}", 1 + random.below(7)),
-        1 => format!("CID {} {alias} 0f{}{data}", 1 + random.below(7), random.below(10)),
-        2 => format!("{} {alias}{data}", random.pick(&["RID", "amd", "AME", "AMR"])),
-        3 => format!("{} {alias} {}", random.pick(&["AMD", "AME", "AMR"]), id(random)),
-        4 => format!("error {} {alias}{data}", random.below(4)),
-        5 => format!("message {} {alias}{data}", field(random)),
-        6 => format!("remote {header}{data}"),
+        0 => format!("CID {} {alias}{bit}{}", 1 + random.below(7), length(random)),
+        1 => format!("CID {} {alias} 0f{}{data}{bit}", 1 + random.below(7), random.below(10)),
+        2 => format!("{} {alias}{data}{bit}", random.pick(&["RID", "amd", "AME", "AMR"])),
+        3 => format!("{} {alias} {}{bit}", random.pick(&["AMD", "AME", "AMR"]), id(random)),
+        4 => format!("error {} {alias}{data}{bit}", random.below(4)),
+        5 => format!("message {} {alias}{data}{bit}", field(random)),
+        6 => format!("remote {header}{data}{bit}"),
         7 => format!("short {}{data}", random.pick(&["123", "7FF", "FFF", "00000123", "00001000"])),
         8 => format!("kind {} {header}{data}", random.below(256)),
-        _ => format!("{header}{data}"),
+        _ => format!("{header}{data}{bit}"),
     }
 }

@@ -1,0 +1,48 @@
+//! What the tool shows of a script: in words, summed up and drawn. Not every test has a use for all of it.
+#![allow(dead_code)]
+
+use lcc::ages::Ages;
+use lcc::card::Card;
+use lcc::expand::{expand, Expanded};
+use lcc::explain::Explain;
+use lcc::paint::Paint;
+use lcc::picture::{draw, Record};
+use lcc::summary::Summary;
+use lcc::watch::Watch;
+use lcc::{play, script};
+
+pub struct Shown {
+    pub explained: String,
+    pub summary: String,
+    pub picture: String,
+    pub longest: Ages,
+}
+
+/// What a script by name shows, without colours.
+pub fn shown(text: &str) -> Shown {
+    shown_of(&expanded(text), Paint(false))
+}
+
+pub fn expanded(text: &str) -> Expanded {
+    expand(&script::parse(text).expect("it is right"))
+}
+
+pub fn shown_of(script: &Expanded, paint: Paint) -> Shown {
+    let (mut card, mut watch, mut explain) = (Card::new(), Watch::default(), Explain::new(paint));
+    let (mut summary, mut record) = (Summary::default(), Record::default());
+    let mut longest = Ages::default();
+    play::play(&script.bytes, &script.links, &mut card, |turn, card| {
+        let moment = watch.look(turn, card);
+        explain.note(&moment);
+        summary.note(&moment);
+        record.note(&moment);
+        longest = moment.longest;
+    });
+    let last = play::last_line(&card);
+    Shown {
+        explained: explain.end(last),
+        summary: summary.text(&card, paint),
+        picture: draw(&record, "drawn", last),
+        longest,
+    }
+}
