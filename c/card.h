@@ -157,11 +157,11 @@ enum { MAP_FOUND_VALUE, MAP_FOUND_COMPARED, MAP_FOUND_WORDS };
 
 /* HEADERS AND ALIASES, as the standard has them */
 
-/* The header of a frame. type: 0 control, 1 message. 9. */
-uint64_t lcc_write_header(uint8_t type, uint16_t field, uint16_t alias, uint64_t header[1]);
+/* The header of a frame. bit: bit 28, which nodes send as 1. type: 0 control, 1 message. 9. */
+uint64_t lcc_write_header(uint8_t bit, uint8_t type, uint16_t field, uint16_t alias, uint64_t header[1]);
 
-/* What a header says. 9. */
-uint64_t lcc_read_header(uint32_t header, uint64_t parts[6]);
+/* What a header says, bit 28 as it came. Writing it back with that bit gives the same header, unless its alias is 0. 9. */
+uint64_t lcc_read_header(uint32_t header, uint64_t parts[7]);
 
 /* The places of `parts`. */
 enum {
@@ -171,6 +171,7 @@ enum {
     LCC_PARTS_KIND,    /* one of the kinds below */
     LCC_PARTS_NUMBER,  /* of a CID or an error report, else 0 */
     LCC_PARTS_SECTION, /* of a CID: a part of the Node ID, else 0 */
+    LCC_PARTS_BIT,     /* bit 28: some equipment sends 0; nodes and map do the same by both */
     LCC_PARTS_WORDS
 };
 

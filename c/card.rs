@@ -20,7 +20,7 @@ extern "C" {
     fn map_note(map: *mut u64, kind: u8, header: u32, len: u8, bytes: u64) -> u64;
     fn map_id_of(map: *const u64, alias: u16, found: *mut u64) -> u64;
     fn map_alias_of(map: *const u64, id: u64, found: *mut u64) -> u64;
-    fn lcc_write_header(class: u8, field: u16, alias: u16, header: *mut u64) -> u64;
+    fn lcc_write_header(bit: u8, class: u8, field: u16, alias: u16, header: *mut u64) -> u64;
     fn lcc_read_header(header: u32, parts: *mut u64) -> u64;
     fn lcc_first_alias(id: u64, alias: *mut u64) -> u64;
     fn lcc_next_alias(state: u64, next: *mut u64) -> u64;

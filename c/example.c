@@ -94,15 +94,15 @@ static void run(unsigned milliseconds) {
 }
 
 /* A frame of other equipment, in every inbox until it is delivered; its kind as exhibit 0 has it there. */
-static void foreign(const char *what, uint8_t type, uint16_t field, uint64_t alias, uint8_t len, uint64_t bytes) {
+static void foreign(const char *what, uint8_t bit, uint8_t type, uint16_t field, uint64_t alias, uint8_t len, uint64_t bytes) {
     uint64_t header[1], frame[CARD_FRAME_WORDS], parts[LCC_PARTS_WORDS];
-    lcc_write_header(type, field, (uint16_t)alias, header);
+    lcc_write_header(bit, type, field, (uint16_t)alias, header);
     card_foreign(table, 0, (uint32_t)header[0], len, bytes);
     map_note(map, 0, (uint32_t)header[0], len, bytes);
     card_inbox(table, 0, 0, frame);
     lcc_read_header((uint32_t)frame[CARD_FRAME_HEADER], parts);
-    printf("%6u ms  other equipment sends under %s: %08" PRIX64 ", %s\n", now, what, frame[CARD_FRAME_HEADER],
-           KINDS[parts[LCC_PARTS_KIND]]);
+    printf("%6u ms  other equipment sends under %s: %08" PRIX64 ", %s%s\n", now, what, frame[CARD_FRAME_HEADER],
+           KINDS[parts[LCC_PARTS_KIND]], parts[LCC_PARTS_BIT] ? "" : ", bit 28 as 0");
     deliver_all();
 }
 
@@ -116,7 +116,7 @@ static void switch_on(void) {
     printf("%u exhibits on; index 24 is refused by %" PRIu64 "\n", on, card_power_on(table, CARD_NODES, 1));
     printf("            exhibits 0 to 23 (t Testing, r Reserved, P Permitted, L Leaving, z Resting, S Silent)\n");
     run(100);
-    foreign("the alias that exhibit 17 tests", 1, 0x15B4, seen(17, CARD_SEEN_ALIAS), 0, 0);
+    foreign("the alias that exhibit 17 tests", 1, 1, 0x15B4, seen(17, CARD_SEEN_ALIAS), 0, 0);
     run(310);
 }
 
@@ -148,8 +148,8 @@ static void work(void) {
     degrade(2);
     run(1);
     card_release(table, 7);
-    foreign("the alias of exhibit 5", 1, 0x15B4, seen(5, CARD_SEEN_ALIAS), 0, 0);
-    foreign("another alias, with the Node ID of exhibit 9", 0, 0x0701, 0xFFF, 6, node_id(9) << 16);
+    foreign("the alias of exhibit 5", 1, 1, 0x15B4, seen(5, CARD_SEEN_ALIAS), 0, 0);
+    foreign("another alias, with the Node ID of exhibit 9", 0, 0, 0x0701, 0xFFF, 6, node_id(9) << 16);
     show_marks();
     run(1);
     fail_once(11);

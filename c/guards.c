@@ -315,22 +315,31 @@ static void maps(void) {
     find_at(0xFFF, MAP_ENTRIES);
 }
 
-static void headers(void) {
-    REFUSED(CARD_REFUSED_MALFORMED, lcc_write_header(2, 0, 1, ONE));
-    REFUSED(CARD_REFUSED_MALFORMED, lcc_write_header(0, 0x8000, 1, ONE));
-    REFUSED(CARD_REFUSED_MALFORMED, lcc_write_header(0, 0, 0, ONE));
-    REFUSED(CARD_REFUSED_MALFORMED, lcc_write_header(1, 0, 0x1000, ONE));
-    ACCEPTED(lcc_write_header(0, 0x6101, 0x263, ONE));
-    EXPECT(ONE[0], 0x16101263);
-    REFUSED(CARD_REFUSED_MALFORMED, lcc_read_header(UINT32_C(1) << 29, PARTS));
-    REFUSED(CARD_REFUSED_MALFORMED, lcc_read_header(UINT32_MAX, PARTS));
-    ACCEPTED(lcc_read_header(0x16101263, PARTS));
+/* CID 6 of alias 263 with this bit 28, written and read. */
+static void cid_6(uint8_t bit, uint32_t header) {
+    ACCEPTED(lcc_write_header(bit, 0, 0x6101, 0x263, ONE));
+    EXPECT(ONE[0], header);
+    ACCEPTED(lcc_read_header(header, PARTS));
     EXPECT(PARTS[LCC_PARTS_TYPE], 0);
     EXPECT(PARTS[LCC_PARTS_FIELD], 0x6101);
     EXPECT(PARTS[LCC_PARTS_ALIAS], 0x263);
     EXPECT(PARTS[LCC_PARTS_KIND], LCC_KIND_CID);
     EXPECT(PARTS[LCC_PARTS_NUMBER], 6);
     EXPECT(PARTS[LCC_PARTS_SECTION], 0x101);
+    EXPECT(PARTS[LCC_PARTS_BIT], bit);
+}
+
+static void headers(void) {
+    REFUSED(CARD_REFUSED_MALFORMED, lcc_write_header(2, 0, 0, 1, ONE));
+    REFUSED(CARD_REFUSED_MALFORMED, lcc_write_header(255, 0, 0, 1, ONE));
+    REFUSED(CARD_REFUSED_MALFORMED, lcc_write_header(1, 2, 0, 1, ONE));
+    REFUSED(CARD_REFUSED_MALFORMED, lcc_write_header(1, 0, 0x8000, 1, ONE));
+    REFUSED(CARD_REFUSED_MALFORMED, lcc_write_header(1, 0, 0, 0, ONE));
+    REFUSED(CARD_REFUSED_MALFORMED, lcc_write_header(1, 1, 0, 0x1000, ONE));
+    REFUSED(CARD_REFUSED_MALFORMED, lcc_read_header(UINT32_C(1) << 29, PARTS));
+    REFUSED(CARD_REFUSED_MALFORMED, lcc_read_header(UINT32_MAX, PARTS));
+    cid_6(1, 0x16101263);
+    cid_6(0, 0x06101263);
     REFUSED(CARD_REFUSED_BAD_NODE_ID, lcc_first_alias(0, ONE));
     REFUSED(CARD_REFUSED_BAD_NODE_ID, lcc_first_alias(UINT64_C(1) << 48, ONE));
     ACCEPTED(lcc_first_alias(ID, ONE));
