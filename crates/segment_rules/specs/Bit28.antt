@@ -223,7 +223,7 @@ unfolding kept
 all-kept i o S T h G none = ap not (old-but-28 S T h i o places G)
 all-kept i o S T h G (more {c} {d} {cs} {ds} b r) =
     let on = all-kept i o (step S c) (step T d) (stepped S T h b) (ageStep ticks S G c) r
-        ∙ ap (λ (H : ℕ → Ages). kept ticks i o (step T d) H ds) (aged-step S T h b G) in
+    ∙ ap (λ (H : ℕ → Ages). kept ticks i o (step T d) H ds) (aged-step S T h b G) in
     λ z. not (old-but-28 S T h i o places G z) && on z
 
 -- What two such lists have in common, from all nodes Off.
