@@ -3,10 +3,10 @@
 use crate::alias::Alias;
 use crate::refusal::Refusal;
 
-/// Bit 28: sent as 1, ignored on receipt.
+/// Bit 28: nodes send it as 1 and ignore it on receipt; a reading tells it as it came (A.5).
 pub const RESERVED_BIT: u32 = 1 << 28;
 /// Bit 27: 1 for a message, 0 for a control frame.
-pub const TYPE_BIT: u32 = 1 << 27;
+const TYPE_BIT: u32 = 1 << 27;
 /// The largest header, field and alias.
 pub const HEADER_MAX: u32 = (1 << 29) - 1;
 pub const FIELD_MAX: u16 = 0x7FFF;
@@ -36,21 +36,31 @@ pub enum Kind {
     Message,
 }
 
-/// What a header says.
+/// What a header says: the parts that are read from it and that it is written from. They lie in this
+/// order, in which a reading that may be a refusal is quick to hand out.
 #[derive(Clone, Copy, Debug, PartialEq, Eq)]
+#[repr(C)]
 pub struct Header {
+    pub bit_28: bool,
     pub message: bool,
     pub field: u16,
     pub alias: Alias,
 }
 
 impl Header {
+    /// The parts of a frame as nodes send it.
+    pub fn sent(message: bool, field: u16, alias: Alias) -> Header {
+        Header { bit_28: true, message, field, alias }
+    }
+
+    #[inline]
     pub fn kind(&self) -> Kind {
         kind_of(self.message, self.field)
     }
 }
 
 /// The kind of a frame of this type and field.
+#[inline]
 pub fn kind_of(message: bool, field: u16) -> Kind {
     if message {
         return Kind::Message;
@@ -72,11 +82,12 @@ pub fn cid_field(number: u8, section: Section) -> u16 {
 }
 
 /// Writes a header; 9 for a field above 15 bits, alias 0 or an alias above 12 bits.
-pub fn write(message: bool, field: u16, alias: Alias) -> Result<u32, Refusal> {
+pub fn write(parts: Header) -> Result<u32, Refusal> {
+    let Header { field, alias, .. } = parts;
     if field > FIELD_MAX || alias.0 == 0 || alias.0 > ALIAS_MAX {
         return Err(Refusal::Malformed);
     }
-    Ok(join(message, field, alias))
+    Ok(join(parts))
 }
 
 /// Reads a header; 9 above 29 bits.
@@ -87,17 +98,20 @@ pub fn read(header: u32) -> Result<Header, Refusal> {
     Ok(split(header))
 }
 
-/// The header of parts that are known to fit.
+/// The header of parts that are known to fit. Alias 0 does: foreign equipment may send it.
 #[inline]
-pub(crate) fn join(message: bool, field: u16, alias: Alias) -> u32 {
+pub fn join(parts: Header) -> u32 {
+    let Header { bit_28, message, field, alias } = parts;
+    let reserved = if bit_28 { RESERVED_BIT } else { 0 };
     let kind = if message { TYPE_BIT } else { 0 };
-    RESERVED_BIT | kind | u32::from(field) << 12 | u32::from(alias.0)
+    reserved | kind | u32::from(field) << 12 | u32::from(alias.0)
 }
 
 /// The parts of a header that is known to have 29 bits.
 #[inline]
 pub(crate) fn split(header: u32) -> Header {
     Header {
+        bit_28: header & RESERVED_BIT != 0,
         message: header & TYPE_BIT != 0,
         field: (header >> 12) as u16 & FIELD_MAX,
         alias: Alias(header as u16 & ALIAS_MAX),

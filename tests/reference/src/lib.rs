@@ -1,4 +1,4 @@
-//! Another implementation of document 01, with requests A.1 to A.4 of document 02, without proofs: the
+//! Another implementation of document 01, with requests A.1 to A.5 of document 02, without proofs: the
 //! peer for tests and for speed.
 
 pub mod alias;

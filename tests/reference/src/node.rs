@@ -2,7 +2,7 @@
 
 use crate::alias::{self, Alias};
 use crate::frame::{Frame, EXTENDED};
-use crate::header::{self, Kind, Section, AMD, AME, AMR, ERROR_REPORT, FIELD_MAX, RID};
+use crate::header::{self, Header, Kind, Section, AMD, AME, AMR, ERROR_REPORT, FIELD_MAX, RID};
 use crate::link::Link;
 use crate::refusal::Refusal;
 
@@ -185,8 +185,7 @@ impl Node {
         } else if self.waiting.amd {
             Some(self.with_own_id(AMD))
         } else if self.waiting.report {
-            let header = header::join(true, REPORT_FIELD, self.alias);
-            Some(Frame::extended(header, &REPORT_DATA))
+            Some(Frame::extended(self.header(true, REPORT_FIELD), &REPORT_DATA))
         } else if let Some(number) = self.waiting.error {
             Some(self.with_own_id(ERROR_REPORT + u16::from(number)))
         } else {
@@ -200,11 +199,16 @@ impl Node {
     }
 
     fn control(&self, field: u16) -> Frame {
-        Frame { header: header::join(false, field, self.alias), ..Frame::EMPTY }
+        Frame { header: self.header(false, field), ..Frame::EMPTY }
     }
 
     fn with_own_id(&self, field: u16) -> Frame {
-        Frame::with_node_id(header::join(false, field, self.alias), self.id)
+        Frame::with_node_id(self.header(false, field), self.id)
+    }
+
+    /// The header of a frame that this node sends.
+    fn header(&self, message: bool, field: u16) -> u32 {
+        header::join(Header::sent(message, field, self.alias))
     }
 
     /// The due frame leaves; 2, 4.
@@ -355,7 +359,7 @@ impl Node {
         if self.waiting.host.is_some() {
             return Err(Refusal::HostFrameWaits);
         }
-        let header = header::join(message, field, self.alias);
+        let header = self.header(message, field);
         self.waiting.host = Some(Frame { header, kind: EXTENDED, len, data }.checked()?);
         Ok(())
     }

@@ -1,15 +1,22 @@
 //! The stored corpus reaches every cell that scripts can reach, and every mark; lists with link
-//! orders reach every cell, and every link mark.
+//! orders reach every cell, every link mark, and every frame that must be heard.
 
+mod common;
+
+use common::{in_state, ID};
+use reference::generate::changes::Change;
 use reference::generate::corpus;
-use reference::generate::coverage::{in_scripts, Coverage, Event, Row};
+use reference::generate::coverage::{in_scripts, Coverage, Event, Heed, Row};
+use reference::generate::heard::Heard;
 use reference::generate::link_lists;
 use reference::generate::look_ups::{Followed, Gone, Outcome};
 use reference::generate::map_corpus::{self, MapRule};
 use reference::generate::marks::Mark;
 use reference::generate::prng::Prng;
 use reference::generate::walker::{walk, walk_list, Temper};
-use reference::{Alias, AliasMap, Frame};
+use reference::header::{self, Header, AMD, AME, RID};
+use reference::map::Entry;
+use reference::{Alias, AliasMap, Frame, State};
 
 #[test]
 fn corpus_of_scripts_is_complete() {
@@ -35,6 +42,7 @@ fn lists_with_link_orders_are_complete() {
     println!("{} lists; {} cells reached", lists.len(), cover.cells.len());
     assert_eq!(cover.missing_in_lists(), []);
     assert_eq!(cover.missing_link_marks(), []);
+    assert_eq!(cover.missing_heard(), []);
     assert_eq!(cover.unlisted_cells(), []);
     assert_eq!(cover.impossible_cells(), []);
 }
@@ -139,4 +147,49 @@ fn look_ups_in_full_and_empty_maps_are_told() {
     }
     assert_eq!(full.outcomes(|_| false), [Outcome::Absent { empty: false, full: true }]);
     assert_eq!(empty.outcomes(|_| true), [Outcome::Absent { empty: true, full: false }]);
+}
+
+/// What a Permitted node has met after a control frame of this field, alias and bit 28.
+fn cover_after(field: u16, alias: Alias, bit_28: bool) -> Coverage {
+    let header = header::join(Header { bit_28, message: false, field, alias });
+    let mut draft = in_state(State::Permitted);
+    draft.foreign(Frame::with_node_id(header, ID)).deliver(0);
+    let mut cover = Coverage::new();
+    cover.count_list(&draft.list);
+    cover
+}
+
+#[test]
+fn a_frame_is_heard_with_its_own_bit_28_alone() {
+    let own = Alias(0x263);
+    let frames = [
+        (0x7050, own, Heed::OwnCid),
+        (RID, own, Heed::OwnOther),
+        (AME, Alias(1), Heed::Ame),
+        (AMD, Alias(1), Heed::Amd),
+    ];
+    for (field, alias, heed) in frames {
+        for bit_28 in [false, true] {
+            let met = Heard { state: State::Permitted, heed, bit_28 };
+            let missing = cover_after(field, alias, bit_28).missing_heard();
+            let others = Heard::all().into_iter().filter(|heard| *heard != met);
+            assert_eq!(missing, others.collect::<Vec<_>>());
+            assert_eq!(missing.len(), 19);
+        }
+    }
+}
+
+#[test]
+fn a_change_of_the_map_is_told_by_its_entries() {
+    let entries = |pairs: &[(u16, u64)]| -> Vec<Entry> {
+        pairs.iter().map(|&(alias, id)| Entry { alias: Alias(alias), id }).collect()
+    };
+    let before = entries(&[(1, 1), (2, 2)]);
+    let change = |after: &[(u16, u64)]| Change::of(&before, &entries(after));
+    assert_eq!(change(&[(1, 1), (2, 2)]), None);
+    assert_eq!(change(&[(1, 1), (2, 2), (3, 3)]), Some(Change::Enters));
+    assert_eq!(change(&[(2, 2), (1, 1)]), Some(Change::Replaces));
+    assert_eq!(change(&[(2, 2), (1, 9)]), Some(Change::Replaces));
+    assert_eq!(change(&[(2, 1)]), Some(Change::Replaces));
+    assert_eq!(change(&[(1, 1)]), Some(Change::Removes));
 }

@@ -1,13 +1,18 @@
-//! The checked examples P1 to P13 of document 01, and its sample script.
+//! The checked examples P1 to P13 of document 01, with bit 28 as A.5 has it, and its sample script.
 
-use reference::header::{self, Kind, Section, RID};
+use reference::header::{self, Header, Kind, Section, RID};
 use reference::{first_alias, next_alias, run, Alias, Frame, Node, Refusal, State};
 
 const ID: u64 = 0x0501_0101_0101;
 const OWN: Alias = Alias(0x263);
 
 fn control(field: u16, alias: Alias) -> Frame {
-    Frame::extended(header::write(false, field, alias).unwrap(), &[])
+    Frame::extended(header::write(parts(1, false, field, alias)).unwrap(), &[])
+}
+
+/// The parts of a header with this bit 28.
+fn parts(bit: u8, message: bool, field: u16, alias: Alias) -> Header {
+    Header { bit_28: bit == 1, message, field, alias }
 }
 
 fn due_header(node: &Node) -> Option<u32> {
@@ -36,7 +41,7 @@ fn permitted_node() -> Node {
 
 #[test]
 fn p1_rid() {
-    assert_eq!(header::write(false, RID, OWN), Ok(0x1070_0263));
+    assert_eq!(header::write(parts(1, false, RID, OWN)), Ok(0x1070_0263));
 }
 
 #[test]
@@ -47,25 +52,27 @@ fn p2_cid_6() {
 }
 
 #[test]
-fn p3_bit_28_is_ignored() {
-    assert_eq!(header::read(0x0070_0263).unwrap().kind(), Kind::Rid);
+fn p3_rid_with_bit_28_as_0() {
+    let read = header::read(0x0070_0263).unwrap();
+    assert_eq!((read, read.kind()), (parts(0, false, RID, OWN), Kind::Rid));
 }
 
 #[test]
 fn p4_message() {
-    assert_eq!(header::write(true, 0x15B4, OWN), Ok(0x195B_4263));
+    assert_eq!(header::write(parts(1, true, 0x15B4, OWN)), Ok(0x195B_4263));
 }
 
 #[test]
 fn p5_cid_1() {
     let read = header::read(0x1123_4263).unwrap();
+    assert_eq!(read, parts(1, false, 0x1234, OWN));
     assert_eq!(read.kind(), Kind::Cid(1, Section(0x234)));
-    assert_eq!(read.alias, OWN);
 }
 
 #[test]
 fn p6_reserved() {
-    assert_eq!(header::read(0x1070_4263).unwrap().kind(), Kind::Reserved);
+    let read = header::read(0x1070_4263).unwrap();
+    assert_eq!((read, read.kind()), (parts(1, false, 0x0704, OWN), Kind::Reserved));
 }
 
 #[test]
@@ -109,7 +116,7 @@ fn p11_permitted_answers_a_cid() {
 #[test]
 fn p12_permitted_leaves_for_a_message() {
     let mut node = permitted_node();
-    let message = Frame::extended(header::write(true, 0x15B4, OWN).unwrap(), &[]);
+    let message = Frame::extended(header::write(parts(1, true, 0x15B4, OWN)).unwrap(), &[]);
     node.receives(&message).unwrap();
     assert_eq!(node.state(), State::Leaving);
     assert_eq!(node.due(), Some(Frame::with_node_id(0x1070_3263, ID)));
@@ -144,22 +151,6 @@ fn data_follow_the_header() {
 }
 
 #[test]
-fn headers_are_read_as_written() {
-    for alias in [1, 0x263, 0xFFF].map(Alias) {
-        for message in [false, true] {
-            for field in 0..=0x7FFF {
-                let written = header::write(message, field, alias).unwrap();
-                let read = header::read(written).unwrap();
-                assert_eq!((read.message, read.field, read.alias), (message, field, alias));
-                assert_eq!(written >> 28, 1);
-                let again = header::read(written & 0x0FFF_FFFF).unwrap();
-                assert_eq!(header::write(again.message, again.field, again.alias), Ok(written));
-            }
-        }
-    }
-}
-
-#[test]
 fn kinds_by_ranges() {
     for field in 0..=0x7FFF {
         assert_eq!(header::kind_of(true, field), Kind::Message);
@@ -179,9 +170,11 @@ fn kinds_by_ranges() {
 #[test]
 fn header_and_alias_refusals() {
     let nine = Err(Refusal::Malformed);
-    assert_eq!(header::write(false, 0x8000, OWN), nine);
-    assert_eq!(header::write(false, 0, Alias(0)), nine);
-    assert_eq!(header::write(true, 0, Alias(0x1000)), nine);
+    for bit in [0, 1] {
+        assert_eq!(header::write(parts(bit, false, 0x8000, OWN)), nine);
+        assert_eq!(header::write(parts(bit, false, 0, Alias(0))), nine);
+        assert_eq!(header::write(parts(bit, true, 0, Alias(0x1000))), nine);
+    }
     assert_eq!(header::read(0x2000_0000), Err(Refusal::Malformed));
     assert_eq!(header::read(0x1070_0000).unwrap().alias, Alias(0));
     assert_eq!(first_alias(0), Err(Refusal::BadNodeId));

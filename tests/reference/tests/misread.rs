@@ -4,7 +4,7 @@ mod common;
 
 use common::{in_state, refusal, ID};
 use reference::generate::draft::Draft;
-use reference::header::{AMD, AME, RESERVED_BIT};
+use reference::header::{self, Header, AMD, AME};
 use reference::script::INPUT_MAX;
 use reference::{run, run_program, Alias, Command, Frame, State};
 
@@ -282,7 +282,7 @@ fn near_node_ids_have_no_effect() {
 #[test]
 fn unused_data_bytes_are_ignored() {
     let mut draft = in_state(State::Permitted);
-    let header = RESERVED_BIT | u32::from(AME) << 12 | 1;
+    let header = header::join(Header::sent(false, AME, Alias(1)));
     draft.foreign(Frame { header, kind: 0, len: 6, data: [5, 1, 1, 1, 1, 1, 9, 9] });
     assert_eq!(draft.segment.view(0).inbox, [Frame::with_node_id(header, ID)]);
     draft.deliver(0);

@@ -1,8 +1,9 @@
 //! The cases of a delivered frame: telling the case of a frame, and making a frame of a case.
 
+use crate::alias::Alias;
 use crate::frame::{node_id_bytes, Frame, ELEVEN_BIT, EXTENDED, REMOTE};
 use crate::generate::prng::Prng;
-use crate::header::{self, Kind, AMD, AME, AMR, RESERVED_BIT, RID, TYPE_BIT};
+use crate::header::{self, cid_field, Header, Kind, Section, AMD, AME, AMR, ERROR_REPORT, RID};
 use crate::node::Node;
 
 /// Own means with the node's own alias; the data's Node ID is named where it counts.
@@ -90,7 +91,7 @@ impl Case {
         }
     }
 
-    fn of_own(header: header::Header, frame: &Frame, node: &Node) -> Case {
+    fn of_own(header: Header, frame: &Frame, node: &Node) -> Case {
         match header.kind() {
             Kind::Cid(..) if frame.len > 0 => Case::OwnCidWithData,
             Kind::Cid(1..=3, _) => Case::OwnCid3To1,
@@ -107,7 +108,7 @@ impl Case {
         }
     }
 
-    fn of_other(header: header::Header, frame: &Frame, node: &Node) -> Case {
+    fn of_other(header: Header, frame: &Frame, node: &Node) -> Case {
         let own_id = frame.carries(node.id());
         let near = is_near(frame, node.id());
         match header.kind() {
@@ -141,7 +142,7 @@ impl Case {
     }
 
     fn clean_frame(self, node: &Node, rng: &mut Prng) -> Frame {
-        let own = u32::from(node.alias().0);
+        let own = node.alias();
         match self {
             Case::ElevenBit => eleven_bit(own, rng),
             Case::RemoteOwn => remote(own, rng),
@@ -152,47 +153,50 @@ impl Case {
         }
     }
 
-    fn own_cid(self, own: u32, node: &Node, rng: &mut Prng) -> Frame {
+    fn own_cid(self, own: Alias, node: &Node, rng: &mut Prng) -> Frame {
         let number = match self {
             Case::OwnCid3To1 => rng.between(1, 3),
             Case::OwnCidWithData => rng.between(1, 7),
             _ => rng.between(4, 7),
         };
-        let header = bit_28(rng) | (cid(number, node, rng) << 12) | own;
+        let (bit_28, field) = (bit_28(rng), cid(number, node, rng));
+        let header = header::join(Header { bit_28, message: false, field, alias: own });
         let len = if self == Case::OwnCidWithData { rng.between(1, 8) } else { 0 };
         Frame::extended(header, &some_bytes(rng)[..len])
     }
 
-    fn control_or_message(self, alias: u32, node: &Node, rng: &mut Prng) -> Frame {
+    fn control_or_message(self, alias: Alias, node: &Node, rng: &mut Prng) -> Frame {
         let (field, data) = self.field_and_data(node, rng);
         let own = matches!(self, Case::OwnMessage | Case::OwnMessageHigh);
         let message = own || self >= Case::OtherMessage;
-        let kind = if message { TYPE_BIT } else { 0 };
-        Frame::extended(bit_28(rng) | kind | field << 12 | alias, &data)
+        let parts = Header { bit_28: bit_28(rng), message, field, alias };
+        Frame::extended(header::join(parts), &data)
     }
 
-    fn field_and_data(self, node: &Node, rng: &mut Prng) -> (u32, Vec<u8>) {
+    fn field_and_data(self, node: &Node, rng: &mut Prng) -> (u16, Vec<u8>) {
         let own = node_id_bytes(node.id())[..6].to_vec();
         match self {
-            Case::OwnRid => (u32::from(RID), maybe_bytes(rng)),
-            Case::OtherRid => (u32::from(RID), own),
-            Case::OwnAmdOwnId | Case::AmdOwnId => (u32::from(AMD), own),
-            Case::OwnAmdOtherId | Case::AmdOtherId => (u32::from(AMD), other_id(node, rng)),
-            Case::AmdNear => (u32::from(AMD), near_id(node, rng)),
-            Case::OwnAme => (u32::from(AME), [vec![], own][rng.below(2)].clone()),
-            Case::AmeEmpty => (u32::from(AME), vec![]),
-            Case::AmeOwnId => (u32::from(AME), own),
-            Case::AmeNear => (u32::from(AME), near_id(node, rng)),
-            Case::AmeOtherId => (u32::from(AME), other_id(node, rng)),
-            Case::OwnAmr | Case::OtherAmr => (u32::from(AMR), [own, vec![]][rng.below(2)].clone()),
-            Case::OwnErrorReport | Case::OtherErrorReport => (0x0710 + rng.below(4) as u32, own),
+            Case::OwnRid => (RID, maybe_bytes(rng)),
+            Case::OtherRid => (RID, own),
+            Case::OwnAmdOwnId | Case::AmdOwnId => (AMD, own),
+            Case::OwnAmdOtherId | Case::AmdOtherId => (AMD, other_id(node, rng)),
+            Case::AmdNear => (AMD, near_id(node, rng)),
+            Case::OwnAme => (AME, [vec![], own][rng.below(2)].clone()),
+            Case::AmeEmpty => (AME, vec![]),
+            Case::AmeOwnId => (AME, own),
+            Case::AmeNear => (AME, near_id(node, rng)),
+            Case::AmeOtherId => (AME, other_id(node, rng)),
+            Case::OwnAmr | Case::OtherAmr => (AMR, [own, vec![]][rng.below(2)].clone()),
+            Case::OwnErrorReport | Case::OtherErrorReport => {
+                (ERROR_REPORT + rng.below(4) as u16, own)
+            }
             Case::OwnReserved => (reserved_field(rng), maybe_bytes(rng)),
             Case::OtherReserved => (reserved_field(rng), [own, vec![]][rng.below(2)].clone()),
-            Case::OwnMessage => (rng.below(0x1000) as u32, maybe_bytes(rng)),
-            Case::OwnMessageHigh => (rng.between(0x1000, 0x7FFF) as u32, maybe_bytes(rng)),
+            Case::OwnMessage => (rng.below(0x1000) as u16, maybe_bytes(rng)),
+            Case::OwnMessageHigh => (rng.between(0x1000, 0x7FFF) as u16, maybe_bytes(rng)),
             Case::OtherMessage => (message_field(rng), [own, vec![]][rng.below(2)].clone()),
-            Case::OtherMessageLikeAme => (u32::from(AME), [own, vec![]][rng.below(2)].clone()),
-            Case::OtherMessageLikeAmd => (u32::from(AMD), own),
+            Case::OtherMessageLikeAme => (AME, [own, vec![]][rng.below(2)].clone()),
+            Case::OtherMessageLikeAmd => (AMD, own),
             _ => (cid(rng.between(1, 7), node, rng), [own, vec![]][rng.below(2)].clone()),
         }
     }
@@ -206,59 +210,51 @@ pub fn is_near(frame: &Frame, id: u64) -> bool {
 }
 
 /// Bit 28 as it should be, mostly.
-fn bit_28(rng: &mut Prng) -> u32 {
-    if rng.percent(65) {
-        RESERVED_BIT
-    } else {
-        0
-    }
+fn bit_28(rng: &mut Prng) -> bool {
+    rng.percent(65)
 }
 
-fn eleven_bit(own: u32, rng: &mut Prng) -> Frame {
-    let header = if rng.percent(50) { own & 0x7FF } else { rng.below(0x800) as u32 };
+fn eleven_bit(own: Alias, rng: &mut Prng) -> Frame {
+    let header = if rng.percent(50) { u32::from(own.0) & 0x7FF } else { rng.below(0x800) as u32 };
     let len = rng.below(9);
     Frame { header, kind: ELEVEN_BIT, ..Frame::extended(0, &some_bytes(rng)[..len]) }
 }
 
-fn remote(alias: u32, rng: &mut Prng) -> Frame {
+fn remote(alias: Alias, rng: &mut Prng) -> Frame {
     let field = rng.pick(&[0x0700, 0x0701, 0x0702, 0x0703, 0x7050, 0x15B4, 0x1000, 0x0710]);
-    let kind = if rng.percent(30) { TYPE_BIT } else { 0 };
-    let header = bit_28(rng) | kind | field << 12 | alias;
+    let (message, bit_28) = (rng.percent(30), bit_28(rng));
+    let header = header::join(Header { bit_28, message, field, alias });
     Frame { header, kind: REMOTE, ..Frame::EMPTY }
 }
 
 /// An alias that is not this one: 0, a neighbour or any.
-fn other_alias(own: u32, rng: &mut Prng) -> u32 {
-    let any = rng.below(0x1000) as u32;
+fn other_alias(Alias(own): Alias, rng: &mut Prng) -> Alias {
+    let any = rng.below(0x1000) as u16;
     let alias = rng.pick(&[0, own ^ 1, own ^ 0x800, any, any, any]);
-    if alias == own {
-        own ^ 2
-    } else {
-        alias
-    }
+    Alias(if alias == own { own ^ 2 } else { alias })
 }
 
 /// A CID's field, often over a section of the node's own Node ID.
-fn cid(number: usize, node: &Node, rng: &mut Prng) -> u32 {
-    let own = (node.id() >> (12 * rng.below(4))) as u32 & 0xFFF;
-    let any = rng.below(0x1000) as u32;
+fn cid(number: usize, node: &Node, rng: &mut Prng) -> u16 {
+    let own = (node.id() >> (12 * rng.below(4))) as u16 & 0xFFF;
+    let any = rng.below(0x1000) as u16;
     let section = rng.pick(&[own, own, 0, 0xFFF, any]);
-    (number as u32) << 12 | section
+    cid_field(number as u8, Section(section))
 }
 
-fn reserved_field(rng: &mut Prng) -> u32 {
-    let field = rng.below(0x1000) as u32;
+fn reserved_field(rng: &mut Prng) -> u16 {
+    let field = rng.below(0x1000) as u16;
     let edges = [0, 0x06FF, 0x0704, 0x070F, 0x0714, 0x0FFF, field];
     let field = rng.pick(&edges);
-    if header::kind_of(false, field as u16) == Kind::Reserved {
+    if header::kind_of(false, field) == Kind::Reserved {
         field
     } else {
         0x0704
     }
 }
 
-fn message_field(rng: &mut Prng) -> u32 {
-    let any = rng.below(0x8000) as u32;
+fn message_field(rng: &mut Prng) -> u16 {
+    let any = rng.below(0x8000) as u16;
     rng.pick(&[0, 0x0700, 0x0703, 0x0710, 0x0FFF, 0x1000, 0x15B4, 0x7FFF, any])
 }
 

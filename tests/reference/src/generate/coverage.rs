@@ -8,9 +8,10 @@ use std::collections::{BTreeMap, BTreeSet};
 use crate::command::{Answer, Command};
 use crate::frame::Frame;
 use crate::generate::cases::Case;
+use crate::generate::heard::Heard;
 use crate::generate::link_marks::{LinkMark, LinkMarks};
 use crate::generate::marks::{Mark, Marks};
-use crate::header::{self, RESERVED_BIT};
+use crate::header;
 use crate::link::Link;
 use crate::node::{Node, Phase, State};
 use crate::segment::Segment;
@@ -149,11 +150,11 @@ impl Event {
         let case = Case::of(frame, node);
         let mut events = vec![Event::Deliver(case)];
         let Some(heed) = Heed::of(case) else { return events };
-        if frame.header & RESERVED_BIT == 0 {
+        let header = header::split(frame.header);
+        if !header.bit_28 {
             events.push(Event::DeliverBit28Clear(heed));
         }
-        let alias_zero = header::split(frame.header).alias.0 == 0;
-        if alias_zero && matches!(heed, Heed::Ame | Heed::Amd) {
+        if header.alias.0 == 0 && matches!(heed, Heed::Ame | Heed::Amd) {
             events.push(Event::DeliverAliasZero(heed));
         }
         events
@@ -387,6 +388,12 @@ impl Coverage {
 
     pub fn missing_marks(&self) -> Vec<Mark> {
         Mark::all().into_iter().filter(|mark| !self.marks.met(mark)).collect()
+    }
+
+    /// The frames that must be heard, each with its bit 28, and were not.
+    pub fn missing_heard(&self) -> Vec<Heard> {
+        let met = |heard: &Heard| self.marks.met(&Mark::Heard(*heard));
+        Heard::all().into_iter().filter(|heard| !met(heard)).collect()
     }
 
     pub fn missing_link_marks(&self) -> Vec<LinkMark> {

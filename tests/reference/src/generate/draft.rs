@@ -2,8 +2,8 @@
 
 use crate::alias::Alias;
 use crate::command::{Answer, Command};
-use crate::frame::{Frame, ELEVEN_BIT};
-use crate::header::{self, AMD, AME, RESERVED_BIT};
+use crate::frame::{node_id_bytes, Frame, ELEVEN_BIT};
+use crate::header::{self, Header, AMD, AME};
 use crate::node::{Owed, Phase, State};
 use crate::segment::Segment;
 
@@ -109,7 +109,7 @@ impl Draft {
 
     /// A foreign control frame with these data.
     pub fn control(&mut self, field: u16, alias: Alias, bytes: &[u8]) -> &mut Draft {
-        self.foreign(Frame::extended(header::join(false, field, alias), bytes))
+        self.foreign(Frame::extended(header::join(Header::sent(false, field, alias)), bytes))
     }
 
     /// A foreign CID with a node's own alias.
@@ -119,17 +119,18 @@ impl Draft {
 
     /// A foreign message with a node's own alias.
     pub fn foreign_message(&mut self, index: u8) -> &mut Draft {
-        self.foreign(Frame::extended(header::join(true, 0x05B4, self.alias(index)), &[1]))
+        let parts = Header::sent(true, 0x05B4, self.alias(index));
+        self.foreign(Frame::extended(header::join(parts), &[1]))
     }
 
     /// A foreign AME for all, and a foreign AMD of a node's own Node ID, both with alias 0.
     pub fn foreign_ame(&mut self) -> &mut Draft {
-        self.foreign(Frame::extended(RESERVED_BIT | u32::from(AME) << 12, &[]))
+        self.control(AME, Alias(0), &[])
     }
 
     pub fn foreign_amd_of(&mut self, index: u8) -> &mut Draft {
-        let header = RESERVED_BIT | u32::from(AMD) << 12;
-        self.foreign(Frame::with_node_id(header, self.segment.node(usize::from(index)).id()))
+        let id = self.segment.node(usize::from(index)).id();
+        self.control(AMD, Alias(0), &node_id_bytes(id)[..6])
     }
 
     /// A frame that has no effect anywhere.

@@ -2,13 +2,14 @@
 
 use std::collections::BTreeMap;
 
+use crate::alias::Alias;
 use crate::command::Command;
 use crate::frame::Frame;
 use crate::generate::cases::Case;
 use crate::generate::coverage::{impossible, in_scripts, Coverage, Event, Heed, Row};
 use crate::generate::draft::Draft;
 use crate::generate::prng::Prng;
-use crate::header::{RESERVED_BIT, TYPE_BIT};
+use crate::header::{self, Header};
 use crate::inbox::Inbox;
 use crate::link::Link;
 use crate::node::{Node, Phase, State};
@@ -202,14 +203,10 @@ impl Filler<'_> {
                 self.deliver(index, frame);
             }
             Event::DeliverBit28Clear(heed) => {
-                let mut frame = self.frame(index, case_to_heed(heed));
-                frame.header &= !RESERVED_BIT;
-                self.deliver(index, frame);
+                self.deliver_with(index, heed, |parts| Header { bit_28: false, ..parts });
             }
             Event::DeliverAliasZero(heed) => {
-                let mut frame = self.frame(index, case_to_heed(heed));
-                frame.header &= !0xFFF;
-                self.deliver(index, frame);
+                self.deliver_with(index, heed, |parts| Header { alias: Alias(0), ..parts });
             }
             Event::BusFrame => self.bus_frame(index),
             Event::ForeignFrame => self.push(idle()),
@@ -284,6 +281,13 @@ impl Filler<'_> {
             self.push(Command::Foreign { frame });
             self.push(Command::Deliver { index });
         }
+    }
+
+    /// Brings a frame to heed to a node, with a header of which some part is another.
+    fn deliver_with(&mut self, index: u8, heed: Heed, other: impl FnOnce(Header) -> Header) {
+        let mut frame = self.frame(index, case_to_heed(heed));
+        frame.header = header::join(other(header::split(frame.header)));
+        self.deliver(index, frame);
     }
 
     /// Lets some other node send.
@@ -554,5 +558,6 @@ fn case_to_heed(heed: Heed) -> Case {
 
 /// A foreign frame that has no effect.
 fn idle() -> Command {
-    Command::Foreign { frame: Frame { header: TYPE_BIT, ..Frame::EMPTY } }
+    let parts = Header { bit_28: false, message: true, field: 0, alias: Alias(0) };
+    Command::Foreign { frame: Frame { header: header::join(parts), ..Frame::EMPTY } }
 }

@@ -4,10 +4,11 @@ use std::collections::BTreeSet;
 
 use crate::alias::Alias;
 use crate::frame::{Frame, ELEVEN_BIT, EXTENDED, REMOTE};
+use crate::generate::changes::Change;
 use crate::generate::look_ups::{Followed, Outcome, Way};
 use crate::generate::marks::{why_malformed, Malformed};
 use crate::generate::prng::Prng;
-use crate::header::{self, Kind, AMD, AME, AMR, RESERVED_BIT, RID, TYPE_BIT};
+use crate::header::{self, Header, Kind, AMD, AME, AMR, RID};
 use crate::map::{AliasMap, Entry};
 
 #[derive(Clone, Copy, Debug, PartialEq, Eq)]
@@ -92,8 +93,13 @@ pub fn ops(seed: u64) -> Vec<MapOp> {
 
 const BASE: u64 = 0x0501_0101_0100;
 
+/// The parts of a control frame as nodes send it.
+fn sent(field: u16, alias: u16) -> Header {
+    Header::sent(false, field, Alias(alias))
+}
+
 fn control(field: u16, alias: u16) -> u32 {
-    RESERVED_BIT | u32::from(field) << 12 | u32::from(alias)
+    header::join(sent(field, alias))
 }
 
 fn amd(alias: u16, id: u64) -> MapOp {
@@ -136,7 +142,7 @@ fn removals(ops: &mut Vec<MapOp>) {
     ops.extend([amr_alone(5), amr(1, BASE + 9), amr(10, BASE + 10), amr(11, BASE + 2)]);
     look_at_all(ops);
     ops.extend([amr_alone(5), amr_alone(0), amd(2, BASE + 9), amd(3, BASE + 3)]);
-    let bit_28_clear = |field, alias| control(field, alias) & !RESERVED_BIT;
+    let bit_28_clear = |field, alias| header::join(Header { bit_28: false, ..sent(field, alias) });
     ops.push(MapOp::Note(Frame::with_node_id(bit_28_clear(AMD, 12), BASE + 12)));
     ops.push(MapOp::Note(Frame { header: bit_28_clear(AMR, 4), ..Frame::EMPTY }));
 }
@@ -153,7 +159,8 @@ fn ignored_frames(ops: &mut Vec<MapOp>) {
     for field in [AMD, AMR] {
         let header = control(field, 1);
         ops.push(MapOp::Note(Frame { header, kind: REMOTE, ..Frame::EMPTY }));
-        ops.push(MapOp::Note(Frame::with_node_id(header | TYPE_BIT, BASE + 4)));
+        let message = header::join(Header { message: true, ..sent(field, 1) });
+        ops.push(MapOp::Note(Frame::with_node_id(message, BASE + 4)));
     }
     for field in [RID, AME, 0x0704, 0x0710, 0x0713, 0x0700, 0x0000, 0x1701, 0x7703, 0x4702] {
         ops.push(MapOp::Note(Frame::with_node_id(control(field, 1), BASE + 4)));
@@ -247,13 +254,16 @@ pub enum MapRule {
     AmrAbsent,
     AmrOtherNodeId,
     AmrWithoutData,
-    AmrBit28Clear,
     RemoteAmr,
     RemoteAmd,
     AmdLen(u8),
     AmdAliasZero,
     AmdNodeIdZero,
-    AmdBit28Clear,
+    /// A change by a frame with this bit 28, which the map ignores (A.5).
+    Changed {
+        change: Change,
+        bit_28: bool,
+    },
     Message(u16),
     Other(u8),
     ElevenBit,
@@ -271,9 +281,12 @@ impl MapRule {
         for (oldest, newest) in [(true, false), (false, true), (false, false)] {
             rules.push(AmrRemoves { oldest, newest });
         }
-        rules.extend([AmrOtherNodeId, AmrWithoutData, AmrBit28Clear, RemoteAmr, RemoteAmd]);
+        rules.extend([AmrOtherNodeId, AmrWithoutData, RemoteAmr, RemoteAmd]);
         rules.extend([0, 1, 2, 3, 4, 5, 7, 8].map(AmdLen));
-        rules.extend([AmdAliasZero, AmdNodeIdZero, AmdBit28Clear, Message(AMD), Message(AMR)]);
+        rules.extend([AmdAliasZero, AmdNodeIdZero, Message(AMD), Message(AMR)]);
+        for bit_28 in [false, true] {
+            rules.extend(Change::ALL.map(|change| Changed { change, bit_28 }));
+        }
         rules.extend([0, 1, 2, 3, 4].map(Other));
         rules.extend([ElevenBit, AliasHigh]);
         for way in Way::ALL {
@@ -304,7 +317,13 @@ pub fn rules_met(ops: &[MapOp]) -> BTreeSet<MapRule> {
             }
             MapOp::New => {}
         }
+        let before = map.entries().to_vec();
         op.answer(&mut map);
+        if let MapOp::Note(frame) = op {
+            let bit_28 = header::split(frame.header).bit_28;
+            let change = Change::of(&before, map.entries());
+            met.extend(change.map(|change| MapRule::Changed { change, bit_28 }));
+        }
         followed.follow(&map);
     }
     met
@@ -325,15 +344,14 @@ fn note_rules(map: &AliasMap, frame: &Frame, met: &mut BTreeSet<MapRule>) {
     }
     let header = header::split(frame.header);
     let (alias, kind) = (header.alias, header.kind());
-    let bit_28_clear = frame.header & RESERVED_BIT == 0;
     match (frame.kind, kind) {
         (ELEVEN_BIT, _) => drop(met.insert(MapRule::ElevenBit)),
         (REMOTE, Kind::Amd) => drop(met.insert(MapRule::RemoteAmd)),
         (REMOTE, Kind::Amr) if map.node_id_of(alias).is_ok() => {
             met.insert(MapRule::RemoteAmr);
         }
-        (EXTENDED, Kind::Amd) => amd_rules(map, alias, frame, bit_28_clear, met),
-        (EXTENDED, Kind::Amr) => amr_rules(map, alias, frame, bit_28_clear, met),
+        (EXTENDED, Kind::Amd) => amd_rules(map, alias, frame, met),
+        (EXTENDED, Kind::Amr) => amr_rules(map, alias, frame, met),
         (EXTENDED, Kind::Message) => drop(met.insert(MapRule::Message(header.field))),
         (EXTENDED, other) => drop(met.insert(MapRule::Other(other_kind(other)))),
         _ => {}
@@ -351,13 +369,7 @@ fn other_kind(kind: Kind) -> u8 {
     }
 }
 
-fn amr_rules(
-    map: &AliasMap,
-    alias: Alias,
-    frame: &Frame,
-    bit_28_clear: bool,
-    met: &mut BTreeSet<MapRule>,
-) {
+fn amr_rules(map: &AliasMap, alias: Alias, frame: &Frame, met: &mut BTreeSet<MapRule>) {
     let entries = map.entries();
     let Some(place) = entries.iter().position(|entry| entry.alias == alias) else {
         met.insert(MapRule::AmrAbsent);
@@ -370,18 +382,9 @@ fn amr_rules(
     } else if !frame.carries(entries[place].id) {
         met.insert(MapRule::AmrOtherNodeId);
     }
-    if bit_28_clear {
-        met.insert(MapRule::AmrBit28Clear);
-    }
 }
 
-fn amd_rules(
-    map: &AliasMap,
-    alias: Alias,
-    frame: &Frame,
-    bit_28_clear: bool,
-    met: &mut BTreeSet<MapRule>,
-) {
+fn amd_rules(map: &AliasMap, alias: Alias, frame: &Frame, met: &mut BTreeSet<MapRule>) {
     let id = u64::from_be_bytes(frame.data) >> 16;
     let full = map.entries().len() == AliasMap::ROOM;
     let same_alias = |entry: &&Entry| entry.alias == alias;
@@ -403,7 +406,4 @@ fn amd_rules(
         _ => MapRule::Added,
     };
     met.insert(rule);
-    if bit_28_clear && rule == MapRule::Added {
-        met.insert(MapRule::AmdBit28Clear);
-    }
 }

@@ -5,7 +5,8 @@ use std::collections::BTreeMap;
 use crate::command::{Answer, Command, OPERANDS};
 use crate::frame::{Frame, ELEVEN_BIT, EXTENDED, REMOTE};
 use crate::generate::coverage::index_of;
-use crate::header::{self, Kind, FIELD_MAX};
+use crate::generate::heard::Heard;
+use crate::header::{self, Header, Kind, FIELD_MAX};
 use crate::inbox::Inbox;
 use crate::node::{Node, Owed, Phase, State};
 use crate::refusal::Refusal;
@@ -70,6 +71,7 @@ pub enum Mark {
         message: bool,
         bit_28: bool,
     },
+    Heard(Heard),
 }
 
 #[derive(Clone, Copy, Debug, PartialEq, Eq, PartialOrd, Ord)]
@@ -167,6 +169,7 @@ impl Mark {
         marks.extend(State::ON.map(Mark::LateInbox));
         marks.extend(State::ON.map(Mark::FullInbox));
         marks.extend(Mark::foreign());
+        marks.extend(Heard::all().into_iter().map(Mark::Heard));
         marks
     }
 
@@ -283,8 +286,10 @@ impl Marks {
             self.if_accepted.push(Mark::EndsAt40(sort_of_kind(frame.kind)));
         }
         let node = segment.node(place);
-        let cid = matches!(header::split(frame.header).kind(), Kind::Cid(..));
-        let own = header::split(frame.header).alias == node.alias() && frame.kind == EXTENDED;
+        let header = header::split(frame.header);
+        self.if_accepted.extend(Heard::of(frame, node).map(Mark::Heard));
+        let cid = matches!(header.kind(), Kind::Cid(..));
+        let own = header.alias == node.alias() && frame.kind == EXTENDED;
         let again = node.owed() == Owed::Reply && segment.owed_age(place) > Some(0);
         if own && cid && again {
             self.met_again |= 1 << place;
@@ -338,9 +343,8 @@ impl Marks {
             }
             Command::Foreign { frame } => {
                 self.count(Mark::Foreign { kind: frame.kind, len: frame.len });
-                let header::Header { message, field, .. } = header::split(frame.header);
                 if frame.kind == EXTENDED {
-                    let bit_28 = frame.header & header::RESERVED_BIT != 0;
+                    let Header { bit_28, message, field, .. } = header::split(frame.header);
                     self.count(Mark::Field { field, message, bit_28 });
                 }
                 if (0..Segment::PLACES).all(|place| segment.node(place).is_off()) {

@@ -1,11 +1,13 @@
 //! Scripts and lists made from a seed, the coverage they reach, and the stored corpora.
 
 pub mod cases;
+pub mod changes;
 pub mod contests;
 pub mod corpus;
 pub mod coverage;
 pub mod draft;
 pub mod filler;
+pub mod heard;
 pub mod link_lists;
 pub mod link_marks;
 pub mod look_ups;
@@ -14,4 +16,5 @@ pub mod marks;
 pub mod prng;
 pub mod scenarios;
 pub mod slow;
+pub mod twin;
 pub mod walker;

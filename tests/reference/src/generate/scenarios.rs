@@ -1,11 +1,11 @@
 //! Scripts written on purpose: each one tells a story that document 01 or 002 suggests.
 
-use crate::alias::{self, ALIASES, MAX_48};
+use crate::alias::{self, Alias, ALIASES, MAX_48};
 use crate::command::{Command, OPERANDS};
 use crate::frame::{Frame, ELEVEN_BIT, REMOTE};
 use crate::generate::draft::Draft;
 use crate::generate::marks::FIELD_EDGES;
-use crate::header::{self, AMD, AME, AMR, RESERVED_BIT, RID, TYPE_BIT};
+use crate::header::{self, Header, AMD, AME, AMR, RID};
 use crate::inbox::Inbox;
 use crate::node::State;
 use crate::segment::Segment;
@@ -104,7 +104,7 @@ fn standard_frames() -> Vec<u8> {
     draft.send_and_drain(0).enquiry(0, 0, 0);
     draft.send_and_drain(0).send_and_drain(1).enquiry(1, 6, ID);
     draft.send_and_drain(1).send_and_drain(0);
-    let alias = alias::Alias(0x5AA);
+    let alias = Alias(0x5AA);
     for field in [0x7050, 0x6101, 0x5010, 0x4101, RID, AMD, AME, AMR, 0x0710, 0x0713] {
         let data = if field == AMD || field == AMR { vec![2, 1, 0x0D, 0, 0, 7] } else { vec![] };
         draft.control(field, alias, &data);
@@ -147,7 +147,7 @@ pub(crate) fn in_state(state: State) -> Draft {
 /// A frame that stands 40 ticks and one that stands 41, by state and by kind.
 fn inbox_ages() -> Vec<Vec<u8>> {
     let frames = [
-        Frame { header: TYPE_BIT | 0x0000_1000, ..Frame::EMPTY },
+        Frame { header: 0x0800_1000, ..Frame::EMPTY },
         Frame { header: 0x1070_2000, kind: REMOTE, ..Frame::EMPTY },
         Frame { header: 0x7FF, kind: ELEVEN_BIT, ..Frame::EMPTY },
     ];
@@ -312,25 +312,27 @@ fn generator_corner(id: u64) -> Vec<u8> {
 /// Every edge of the field's ranges, both types, bit 28 either way, at the node's own alias.
 fn field_edges(goal: State) -> Vec<Vec<u8>> {
     let mut headers = Vec::new();
-    for high in [0, RESERVED_BIT] {
-        for kind in [0, TYPE_BIT] {
-            headers.extend(FIELD_EDGES.map(|field| high | kind | u32::from(field) << 12));
+    for bit_28 in [false, true] {
+        for message in [false, true] {
+            let parts = |field| Header { bit_28, message, field, alias: Alias(0) };
+            headers.extend(FIELD_EDGES.map(parts));
         }
     }
     headers.chunks(6).map(|chunk| aimed_at_six(goal, chunk)).collect()
 }
 
-fn aimed_at_six(goal: State, headers: &[u32]) -> Vec<u8> {
+/// Each of these, with the own alias in place of 0, for one of six nodes.
+fn aimed_at_six(goal: State, headers: &[Header]) -> Vec<u8> {
     let mut draft = Draft::new();
     for index in 0..6 {
         draft.power_on(index, ID + 17 * u64::from(index));
     }
     draft.bring_all(&[0, 1, 2, 3, 4, 5], goal);
-    for (index, header) in (0..).zip(headers) {
-        let alias = u32::from(draft.alias(index).0);
+    for (index, parts) in (0..).zip(headers) {
+        let header = header::join(Header { alias: draft.alias(index), ..*parts });
         let data = [1, 2, 3, 4, 5, 6, 7, 8];
-        let len = (*header >> 12) as usize % 9;
-        draft.foreign(Frame::extended(header | alias, &data[..len]));
+        let len = (header >> 12) as usize % 9;
+        draft.foreign(Frame::extended(header, &data[..len]));
     }
     draft.drain_all();
     for index in 0..6 {
@@ -403,8 +405,9 @@ fn long_stream() -> Vec<u8> {
     let mut draft = Draft::new();
     draft.power_on(0, ID);
     draft.power_on(1, ID + 1);
-    for k in 0..120u32 {
-        draft.foreign(Frame::extended(TYPE_BIT | k << 12 | k, &k.to_be_bytes()));
+    for k in 0..120u16 {
+        let parts = Header { bit_28: false, message: true, field: k, alias: Alias(k) };
+        draft.foreign(Frame::extended(header::join(parts), &u32::from(k).to_be_bytes()));
         draft.deliver(1);
         if k > 20 {
             draft.deliver(0);
@@ -476,7 +479,7 @@ fn crossing_reservations() -> Vec<u8> {
     }
     draft.bring_all(&[0, 1], State::Permitted);
     let alias = draft.alias(0);
-    draft.foreign(Frame::extended(header::join(true, 0x05B4, alias), &[]));
+    draft.foreign(Frame::extended(header::join(Header::sent(true, 0x05B4, alias)), &[]));
     draft.drain_all();
     draft.bring_all(&[0, 1], State::Permitted);
     draft.bytes
