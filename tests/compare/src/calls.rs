@@ -2,7 +2,9 @@
 //! goes through a pointer, which the linker fills in; so does one in plain Rust, which is not inlined either.
 
 use crate::card::{read_header, ProvedMap};
-use reference::header::{self, Header, Kind};
+use crate::operations::headers::parts;
+use crate::operations::put_out;
+use reference::header;
 use reference::{Alias, AliasMap, Frame, Refusal};
 use std::hint::black_box;
 
@@ -34,12 +36,12 @@ fn full() -> (ProvedMap, AliasMap) {
     (proved, plain)
 }
 
-/// As the call for C has it: the answer is 0 or the refusal's number; what was found, and how many entries were compared, go into
-/// two words that are lent.
-fn as_for_c(answer: Result<[u64; 2], Refusal>, found: &mut [u64; 2]) -> u64 {
+/// As the call for C has it: the answer is 0 or the refusal's number; what a look-up found and how many entries it compared, or the
+/// parts that were read, go into words that are lent.
+fn as_for_c<const N: usize>(answer: Result<[u64; N], Refusal>, lent: &mut [u64; N]) -> u64 {
     match answer {
         Ok(words) => {
-            *found = words;
+            *lent = words;
             0
         }
         Err(refusal) => refusal.number().into(),
@@ -62,8 +64,8 @@ fn plain_note(map: &mut AliasMap, frame: &Frame) -> Result<(), Refusal> {
 }
 
 #[inline(never)]
-fn plain_read(header: u32) -> Result<(Header, Kind), Refusal> {
-    header::read(header).map(|parts| (parts, parts.kind()))
+fn plain_read(header: u32, words: &mut [u64; 7]) -> u64 {
+    as_for_c(header::read(header).map(parts), words)
 }
 
 /// Looking `key` up in a full map, which gives these two words, or 13 where there are none.
@@ -125,16 +127,19 @@ fn noting(name: &'static str, first: u64, answered: u64) -> Row {
 }
 
 fn reading() -> Row {
-    let headers = [0x1705_0263, 0x1070_0263, 0x1070_1263, 0x1070_2263, 0x1070_3263, 0x1071_2263, 0x1070_4263, 0x195B_4263];
-    let mut parts = [0; 6];
-    let plain_call: fn(u32) -> Result<(Header, Kind), Refusal> = black_box(plain_read);
+    let headers = [0x1705_0263, 0x0070_0263, 0x1070_1263, 0x0070_2263, 0x1070_3263, 0x0071_2263, 0x1070_4263, 0x095B_4263];
+    let plain_call: fn(u32, &mut [u64; 7]) -> u64 = black_box(plain_read);
+    for header in headers {
+        assert_eq!(put_out(|words| read_header(header, words)), put_out(|words| plain_call(header, words)));
+    }
+    let (mut words, mut plain_words) = ([0; 7], [0; 7]);
     Row {
         name: "header, eight kinds in turn",
         proved: Box::new(move |turn| {
-            black_box(read_header(black_box(headers[turn as usize % 8]), &mut parts));
+            black_box(read_header(black_box(headers[turn as usize % 8]), &mut words));
         }),
         plain: Box::new(move |turn| {
-            black_box(plain_call(black_box(headers[turn as usize % 8]))).ok();
+            black_box(plain_call(black_box(headers[turn as usize % 8]), &mut plain_words));
         }),
     }
 }

@@ -165,12 +165,12 @@ impl ProvedMap {
     }
 }
 
-pub fn write_header(class: u8, field: u16, alias: u16, header: &mut [u64; 1]) -> u64 {
-    unsafe { lcc_write_header(class, field, alias, header.as_mut_ptr()) }
+pub fn write_header(bit: u8, class: u8, field: u16, alias: u16, header: &mut [u64; 1]) -> u64 {
+    unsafe { lcc_write_header(bit, class, field, alias, header.as_mut_ptr()) }
 }
 
-/// Type, field, alias, kind, number, section.
-pub fn read_header(header: u32, parts: &mut [u64; 6]) -> u64 {
+/// Type, field, alias, kind, number, section, bit 28.
+pub fn read_header(header: u32, parts: &mut [u64; 7]) -> u64 {
     unsafe { lcc_read_header(header, parts.as_mut_ptr()) }
 }
 

@@ -1,11 +1,12 @@
 //! Compares the operations for C with the other implementation. The table: OPERATIONS commands, and all that is seen after each of
 //! them; first the lists of the stored corpus, which meet every state with every event that a script can carry, then lists with
-//! link orders, which meet the rest too, then lists at random corners of A.3, then others by chance. Then headers, aliases and the
-//! map. SEED may be given.
+//! link orders, which meet the rest too, then lists at random corners of A.3, then others by chance. Some of the lists are also
+//! carried out on two proved tables, with bit 28 of foreign frames turned in one. Then headers, aliases and the map. SEED may be
+//! given.
 
 use compare::operations::map::{self, Counts, LookUps};
 use compare::operations::operation::Operation;
-use compare::operations::{corners, cover, headers, list, pair};
+use compare::operations::{corners, cover, headers, list, pair, twins};
 use compare::setting::{fresh_seed, setting};
 use compare::shrink::fewest;
 use reference::generate::coverage::Coverage;
@@ -19,32 +20,42 @@ use std::process::exit;
 const NOTES: usize = 200_000;
 const NOTES_OF_A_MAP: usize = 400;
 
+/// One of so many lists by chance is compared on twin tables; of the lists that are the same in every run each is.
+const TWINS_AMONG: u64 = 10;
+
 fn main() {
     let seed = setting("SEED", 0, fresh_seed());
     let wanted = setting("OPERATIONS", 1, 2_000_000) as usize;
     let at_corners = compare_tables(seed, wanted);
-    match headers::compare(seed) {
-        Ok(calls) => println!("operations: {calls} calls for headers and aliases agree"),
-        Err(what) => fail(&what),
-    }
+    compare_headers(seed);
     compare_maps(seed);
     println!("operations: {at_corners}");
+}
+
+fn compare_headers(seed: u64) {
+    let headers::Counts { calls, read_again, written_back, alias_zero } =
+        headers::compare(seed).unwrap_or_else(|what| fail(&what));
+    println!("operations: {calls} calls for headers and aliases agree;");
+    println!(
+        "operations: {read_again} headers that were written are read as their parts; {written_back} that were read are written \
+         back as they were, with their own bit 28, and {alias_zero} with alias 0 are refused by 9"
+    );
 }
 
 /// Compares tables, and gives a line on the lists at corners.
 fn compare_tables(seed: u64, wanted: usize) -> String {
     let mut run = Run { wanted, ..Run::default() };
     for script in corpus::scripts(corpus::SEED) {
-        run.compare(&list::of_script(&script), "of the stored corpus");
+        run.compare(&list::of_script(&script), "of the stored corpus", true);
     }
     for commands in link_lists::lists(corpus::SEED) {
         let list: Vec<Operation> = commands.into_iter().map(Operation::from).collect();
-        run.compare(&list, "with link orders, of those made for every run");
+        run.compare(&list, "with link orders, of those made for every run", true);
     }
     for number in 0..corners::LISTS {
         let seed = seed.wrapping_add(number);
         let (corner, list) = corners::random(&mut Prng::new(seed));
-        let greatest = run.compare(&list, &format!("at {corner:?}, made by SEED={seed},"));
+        let greatest = run.compare(&list, &format!("at {corner:?}, made by SEED={seed},"), number % TWINS_AMONG == 0);
         run.corners.add(corner, greatest).unwrap_or_else(|what| fail(&format!("SEED={seed}: {what}")));
     }
     for number in 0.. {
@@ -52,9 +63,10 @@ fn compare_tables(seed: u64, wanted: usize) -> String {
             break;
         }
         let seed = seed.wrapping_add(number);
-        run.compare(&list::random(&mut Prng::new(seed)), &format!("made by SEED={seed}"));
+        run.compare(&list::random(&mut Prng::new(seed)), &format!("made by SEED={seed}"), number % TWINS_AMONG == 0);
     }
     println!("{}", cover::table(&run.cover));
+    println!("{}", cover::heard(&run.cover));
     println!("{}", cover::link_marks(&run.cover));
     run.end(seed);
     run.corners.line().unwrap_or_else(|unmet| fail(&unmet))
@@ -65,6 +77,7 @@ fn compare_tables(seed: u64, wanted: usize) -> String {
 struct Run {
     cover: Coverage,
     corners: corners::Counts,
+    twins: twins::Counts,
     lists: usize,
     late: usize,
     done: usize,
@@ -74,12 +87,15 @@ struct Run {
 }
 
 impl Run {
-    /// Compares a list and gives its greatest ages.
-    fn compare(&mut self, list: &[Operation], whose: &str) -> Limits {
+    /// Compares a list, on twin tables too where that is wanted, and gives its greatest ages.
+    fn compare(&mut self, list: &[Operation], whose: &str, with_twins: bool) -> Limits {
         let greatest = pair::compare(list, &mut self.cover).unwrap_or_else(|what| {
             let differs = |less: &[Operation]| pair::compare(less, &mut Coverage::new()).err();
             report(list, whose, &what, "card_new(table);", differs)
         });
+        if with_twins {
+            self.compare_twins(list, whose);
+        }
         self.show_progress(list.len());
         self.lists += 1;
         self.late += usize::from(!greatest.are_kept());
@@ -87,6 +103,13 @@ impl Run {
         self.far += list.iter().filter(|operation| operation.command().is_none()).count();
         self.links += list.iter().filter(|operation| matches!(operation, Operation::Link { .. })).count();
         greatest
+    }
+
+    fn compare_twins(&mut self, list: &[Operation], whose: &str) {
+        twins::compare(list, &mut self.twins).unwrap_or_else(|what| {
+            let differs = |less: &[Operation]| twins::compare(less, &mut twins::Counts::default()).err();
+            report(list, whose, &what, "card_new(table);", differs)
+        });
     }
 
     /// A line for each tenth.
@@ -106,10 +129,26 @@ impl Run {
         if !unmet.is_empty() {
             fail(&format!("these link marks were never met: {unmet:?}"));
         }
+        let unmet = self.cover.missing_heard();
+        if !unmet.is_empty() {
+            fail(&format!("these frames were never delivered with this bit 28: {unmet:?}"));
+        }
         let Run { lists, late, done, far, links, .. } = self;
         println!("operations: {done} commands agree, SEED={seed}: in {lists} lists, {late} of them late;");
         println!("operations: {far} of them have operands that no script can carry, and {links} are link orders;");
         println!("operations: after each, every node, due frame and inbox; and no word was changed by a refusal or by a look");
+        self.end_twins();
+    }
+
+    fn end_twins(&self) {
+        let twins::Counts { commands, turned, apart } = self.twins;
+        if apart == 0 {
+            fail("no frame in an inbox of twin tables differed in bit 28");
+        }
+        println!("operations: {commands} commands on twin tables, {turned} foreign frames among them with bit 28 turned in one, agree:");
+        println!(
+            "operations: the same answers, and after each the same nodes, due frames and inboxes, but for bit 28 of {apart} frames"
+        );
     }
 }
 
@@ -127,12 +166,16 @@ fn compare_maps(seed: u64) {
             let differs = |less: &[map::Note]| map::compare(less, &mut Counts::default()).err();
             report(&notes, &format!("made by SEED={seed}"), &what, "map_new(map);", differs);
         }
+        if let Err(what) = twins::compare_maps(&notes) {
+            let differs = |less: &[map::Note]| twins::compare_maps(less).err();
+            report(&notes, &format!("made by SEED={seed}"), &what, "map_new(map);", differs);
+        }
     }
     end_maps(&counts);
 }
 
 fn end_maps(counts: &Counts) {
-    let Counts { notes, malformed, full, by_alias, by_id } = counts;
+    let Counts { notes, malformed, full, by_alias, by_id, .. } = counts;
     if *malformed == 0 || *full == 0 {
         fail("the notes never met 9 or 12");
     }
@@ -140,7 +183,19 @@ fn end_maps(counts: &Counts) {
         "operations: {notes} notes agree, {malformed} refused by 9, {full} by 12; after each, look-ups agree in what they find \
          and in how many entries they compare:"
     );
-    for (way, look_ups) in [("alias", by_alias), ("Node ID", by_id)] {
+    end_look_ups([("alias", by_alias), ("Node ID", by_id)]);
+    println!("operations: the same notes with bit 28 turned leave the same map;");
+    for bit_28 in [false, true] {
+        let (bit, [entered, replaced, removed]) = (u8::from(bit_28), counts.changed(bit_28));
+        println!("operations: with bit 28 as {bit}, {entered} AMDs entered, {replaced} replaced, and {removed} AMRs removed");
+        if entered.min(replaced).min(removed) == 0 {
+            fail("AMDs shall enter and replace, and AMRs remove, with bit 28 as 0 and as 1");
+        }
+    }
+}
+
+fn end_look_ups(ways: [(&str, &LookUps); 2]) {
+    for (way, look_ups) in ways {
         let LookUps { done, found, places } = look_ups;
         println!("operations: {done} by {way}, {found} of them found, at {} different places", places.len());
         let never_hit = look_ups.never_hit();

@@ -1,7 +1,10 @@
-//! How often each state of a node met each event, drawn as a table; and how often each link mark was met.
+//! How often each state of a node met each event, drawn as a table; how often a frame to heed came with either bit 28; and how often
+//! each link mark was met.
 
 use reference::generate::coverage::{reachable, Coverage, Event, Row};
+use reference::generate::heard::Heard;
 use reference::generate::link_marks::{Cause, LinkMark};
+use reference::generate::marks::Mark;
 use std::collections::{BTreeMap, BTreeSet};
 use std::fmt::Write;
 
@@ -52,6 +55,18 @@ pub fn table(cover: &Coverage) -> String {
             let count = counts.get(&(event, state)).map_or("-".to_string(), u64::to_string);
             write!(text, "{count:>11}").expect("a string takes it");
         }
+    }
+    text
+}
+
+/// A line for each frame to heed at each state in which it matters: how often it was delivered with bit 28 as 0 and as 1.
+pub fn heard(cover: &Coverage) -> String {
+    let count = |frame| cover.marks.counts.get(&Mark::Heard(frame)).unwrap_or(&0);
+    let mut text = format!("{:<50}{:>11}{:>11}", "frames to heed, by bit 28", "as 0", "as 1");
+    for frame in Heard::all().into_iter().filter(|frame| !frame.bit_28) {
+        let label = format!("deliver {:?} in {:?}", frame.heed, frame.state);
+        let [zero, one] = [false, true].map(|bit_28| count(Heard { bit_28, ..frame }));
+        write!(text, "\n{label:<50}{zero:>11}{one:>11}").expect("a string takes it");
     }
     text
 }

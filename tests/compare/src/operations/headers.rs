@@ -1,9 +1,10 @@
-//! Headers and aliases: every field with both types, headers spread over all 29 bits, Node IDs and generator states by chance.
+//! Headers and aliases: every field with both types and either bit 28, headers spread over all 29 bits, each header that is read
+//! written back and each that is written read again; Node IDs and generator states by chance.
 
-use super::{answered, put_out, same};
+use super::{alike, answered, put_out, refused, same};
 use crate::card::{first_alias, next_alias, read_header, write_header};
 use reference::generate::prng::Prng;
-use reference::header::{self, Header, Kind, Section};
+use reference::header::{self, Header, Kind, Section, RESERVED_BIT};
 use reference::{Alias, Refusal};
 
 /// Aliases of which some are 0 or above 12 bits.
@@ -12,41 +13,56 @@ const ALIASES: [u16; 8] = [0, 1, 0x263, 0xAAA, 0xFFF, 0x1000, 0x1263, 0xFFFF];
 /// 2^22 of the 2^29 headers.
 const SPREAD: u32 = 1 << 22;
 
-/// How many calls agree, or what differs.
-pub fn compare(seed: u64) -> Result<usize, String> {
-    Ok(fields()? + spread()? + aliases(&mut Prng::new(seed))?)
+/// How many calls agree, and what became of the round trips of A.5 among them.
+#[derive(Default)]
+pub struct Counts {
+    pub calls: usize,
+    /// Headers that were written, and read as what they were written from.
+    pub read_again: usize,
+    /// Headers that were read, and written back as they were; and those that have alias 0, refused by 9.
+    pub written_back: usize,
+    pub alias_zero: usize,
 }
 
-/// Every field, those above 15 bits too, with both types and some aliases; and types that there are not.
-fn fields() -> Result<usize, String> {
-    let mut calls = 0;
+/// What agrees, or what differs.
+pub fn compare(seed: u64) -> Result<Counts, String> {
+    let mut counts = Counts::default();
+    fields(&mut counts)?;
+    spread(&mut counts)?;
+    aliases(&mut Prng::new(seed), &mut counts)?;
+    Ok(counts)
+}
+
+/// Every field, those above 15 bits too, with both types, either bit 28 and some aliases; and types and bits that there are not.
+fn fields(counts: &mut Counts) -> Result<(), String> {
     for field in 0..=u16::MAX {
+        let [low, high] = [field as u8, (field >> 8) as u8];
         for alias in ALIASES {
-            for class in [0, 1, 2, 0x80 | field as u8] {
-                written(class, field, alias)?;
-                calls += 1;
+            for class in [0, 1, 2, 0x80 | low] {
+                for bit in [0, 1, 2, low.max(2), high.max(2)] {
+                    written(bit, class, field, alias, counts)?;
+                }
             }
-            for reserved in [0, 1 << 28, 1 << 29, 1 << 31] {
-                read(reserved | u32::from(field) << 12 | u32::from(alias & 0xFFF))?;
-                calls += 1;
+            for above in [0, RESERVED_BIT, 1 << 29, 1 << 29 | RESERVED_BIT, 1 << 31] {
+                read(above | u32::from(field) << 12 | u32::from(alias & 0xFFF), counts)?;
             }
         }
     }
-    Ok(calls)
+    Ok(())
 }
 
 /// Headers of 29 bits, an odd step apart, so that every bit changes; and each with bits above them.
-fn spread() -> Result<usize, String> {
+fn spread(counts: &mut Counts) -> Result<(), String> {
     for number in 0..SPREAD {
         let header = number.wrapping_mul(0x9E37_79B1);
-        read(header & 0x1FFF_FFFF)?;
-        read(header)?;
+        read(header & header::HEADER_MAX, counts)?;
+        read(header, counts)?;
     }
-    Ok(2 * SPREAD as usize)
+    Ok(())
 }
 
 /// Node IDs and states: small, around 48 bits, any.
-fn aliases(rng: &mut Prng) -> Result<usize, String> {
+fn aliases(rng: &mut Prng, counts: &mut Counts) -> Result<(), String> {
     const CALLS: usize = 1_000_000;
     let mut state = 0;
     for number in 0..CALLS as u64 {
@@ -56,26 +72,53 @@ fn aliases(rng: &mut Prng) -> Result<usize, String> {
         next(value)?;
         state = next(state)?;
     }
-    Ok(3 * CALLS)
+    counts.calls += 3 * CALLS;
+    Ok(())
 }
 
-fn written(class: u8, field: u16, alias: u16) -> Result<(), String> {
-    let proved = put_out(|header| write_header(class, field, alias, header));
-    let plain = match class {
-        0 | 1 => header::write(class == 1, field, Alias(alias)),
+/// Writes a header on both sides, and reads it again where it is accepted.
+fn written(bit: u8, class: u8, field: u16, alias: u16, counts: &mut Counts) -> Result<(), String> {
+    let call = || format!("lcc_write_header({bit}, {class}, 0x{field:04X}, 0x{alias:03X}, header)");
+    let proved = put_out(|header| write_header(bit, class, field, alias, header));
+    let plain = match (bit, class) {
+        (0 | 1, 0 | 1) => header::write(Header { bit_28: bit == 1, message: class == 1, field, alias: Alias(alias) }),
         _ => Err(Refusal::Malformed),
     };
-    let plain = answered(plain, |header| [header.into()]);
-    same(|| format!("lcc_write_header({class}, 0x{field:04X}, 0x{alias:03X}, header)"), proved, plain)
+    same(call, proved, answered(plain, |header| [header.into()]))?;
+    counts.calls += 1;
+    let (0, [header]) = proved else { return Ok(()) };
+    let [read_class, read_field, read_alias, .., read_bit] = read(header as u32, counts)?;
+    let parts = [bit.into(), class.into(), field.into(), alias.into()];
+    let read = [read_bit, read_class, read_field, read_alias];
+    alike(|| format!("{}, read again", call()), ["read", "written"], [read, parts])?;
+    counts.read_again += 1;
+    Ok(())
 }
 
-fn read(header: u32) -> Result<(), String> {
-    let proved = put_out(|parts| read_header(header, parts));
-    same(|| format!("lcc_read_header(0x{header:08X}, parts)"), proved, answered(header::read(header), parts))
+/// Reads a header on both sides, and writes it back where it is accepted.
+fn read(header: u32, counts: &mut Counts) -> Result<[u64; 7], String> {
+    let (code, words) = put_out(|parts| read_header(header, parts));
+    same(|| format!("lcc_read_header(0x{header:08X}, parts)"), (code, words), answered(header::read(header), parts))?;
+    counts.calls += 1;
+    if code == 0 {
+        write_back(header, words, counts)?;
+    }
+    Ok(words)
+}
+
+/// Writes what was read, with its own bit 28: that gives the same header, or 9 where the alias is 0.
+fn write_back(header: u32, [class, field, alias, .., bit]: [u64; 7], counts: &mut Counts) -> Result<(), String> {
+    let again = put_out(|written| write_header(bit as u8, class as u8, field as u16, alias as u16, written));
+    let as_it_came = if alias == 0 { refused(Refusal::Malformed) } else { (0, [header.into()]) };
+    alike(|| format!("0x{header:08X}, read and written back"), ["written", "expected"], [again, as_it_came])?;
+    counts.calls += 1;
+    counts.written_back += usize::from(alias != 0);
+    counts.alias_zero += usize::from(alias == 0);
+    Ok(())
 }
 
 /// The words of a header's parts, as c/card.h has them.
-fn parts(header: Header) -> [u64; 6] {
+pub fn parts(header: Header) -> [u64; 7] {
     let (kind, number, section) = match header.kind() {
         Kind::Cid(number, Section(section)) => (0, number, section),
         Kind::Rid => (1, 0, 0),
@@ -86,7 +129,8 @@ fn parts(header: Header) -> [u64; 6] {
         Kind::Reserved => (6, 0, 0),
         Kind::Message => (7, 0, 0),
     };
-    [header.message.into(), header.field.into(), header.alias.0.into(), kind, number.into(), section.into()]
+    let Header { bit_28, message, field, alias } = header;
+    [message.into(), field.into(), alias.0.into(), kind, number.into(), section.into(), bit_28.into()]
 }
 
 fn first(id: u64) -> Result<(), String> {
@@ -100,4 +144,40 @@ fn next(state: u64) -> Result<u64, String> {
     let words = answered(plain, |(Alias(alias), state)| [state, alias.into()]);
     same(|| format!("lcc_next_alias(0x{state:X}, next)"), put_out(|next| next_alias(state, next)), words)?;
     Ok(plain.map_or(0, |(_, state)| state))
+}
+
+#[cfg(test)]
+mod tests {
+    use super::*;
+
+    /// A RID with alias 0x263, and its words.
+    const RID: u32 = 0x1070_0263;
+    const WORDS: [u64; 7] = [0, 0x0700, 0x263, 1, 0, 0, 1];
+
+    #[test]
+    fn what_is_not_written_back_as_it_was_is_found() {
+        let back = |header, words| write_back(header, words, &mut Counts::default());
+        assert_eq!(back(RID, WORDS), Ok(()));
+        for part in [0, 1, 2, 6] {
+            let mut other = WORDS;
+            other[part] ^= 1;
+            assert!(back(RID, other).is_err());
+        }
+        assert_eq!(back(0x1070_0000, [0, 0x0700, 0, 1, 0, 0, 1]), Ok(()), "refused by 9");
+    }
+
+    #[test]
+    fn round_trips_are_counted() {
+        let mut counts = Counts::default();
+        assert_eq!(read(RID, &mut counts), Ok(WORDS));
+        assert_eq!((counts.calls, counts.written_back), (2, 1));
+        written(0, 0, 0x0700, 0x263, &mut counts).expect("both sides agree");
+        assert_eq!((counts.calls, counts.written_back, counts.read_again), (5, 2, 1));
+        for (bit, class) in [(2, 0), (0, 2), (255, 1)] {
+            written(bit, class, 0x0700, 0x263, &mut counts).expect("both sides refuse");
+        }
+        read(0x1070_0000, &mut counts).expect("both sides agree");
+        read(0x2070_0263, &mut counts).expect("both sides refuse");
+        assert_eq!((counts.calls, counts.written_back, counts.read_again, counts.alias_zero), (11, 2, 1, 1));
+    }
 }

@@ -2,9 +2,12 @@
 
 use super::{answered, put_out, same, Answered};
 use crate::card::ProvedMap;
+use reference::generate::changes::Change;
 use reference::generate::prng::Prng;
+use reference::generate::twin::twin;
+use reference::header::{self, Header, AMD, AMR};
 use reference::{Alias, AliasMap, Frame, Refusal};
-use std::collections::BTreeSet;
+use std::collections::{BTreeMap, BTreeSet};
 use std::fmt;
 
 /// A frame to be noted.
@@ -23,6 +26,22 @@ impl fmt::Display for Note {
     }
 }
 
+impl Note {
+    fn frame(&self) -> Frame {
+        Frame { kind: self.kind, header: self.header, len: self.len, data: self.bytes.to_be_bytes() }
+    }
+
+    /// The same with bit 28 turned.
+    pub fn twin(&self) -> Note {
+        Note { header: twin(&self.frame()).header, ..*self }
+    }
+
+    /// By the proved library: 0, or the refusal's number.
+    pub fn proved(&self, map: &mut ProvedMap) -> u64 {
+        map.note(self.kind, self.header, self.len, self.bytes)
+    }
+}
+
 /// Aliases and Node IDs are few, so that entries meet; more than the map has room for, so that it gets full.
 const FEW: usize = 90;
 
@@ -32,8 +51,27 @@ pub struct Counts {
     pub notes: usize,
     pub malformed: usize,
     pub full: usize,
+    /// How often each change was made, by frames with bit 28 as 0 and as 1.
+    changes: BTreeMap<(Change, bool), usize>,
     pub by_alias: LookUps,
     pub by_id: LookUps,
+}
+
+impl Counts {
+    /// Adds a note on which both sides agree, which made the second map of the first.
+    fn add(&mut self, note: &Note, answer: Result<(), Refusal>, before: &AliasMap, after: &AliasMap) {
+        self.notes += 1;
+        self.malformed += usize::from(answer == Err(Refusal::Malformed));
+        self.full += usize::from(answer == Err(Refusal::MapFull));
+        if let (Some(change), Ok(parts)) = (Change::of(before.entries(), after.entries()), header::read(note.header)) {
+            *self.changes.entry((change, parts.bit_28)).or_default() += 1;
+        }
+    }
+
+    /// How often frames with this bit 28 made each change.
+    pub fn changed(&self, bit_28: bool) -> [usize; 3] {
+        Change::ALL.map(|change| *self.changes.get(&(change, bit_28)).unwrap_or(&0))
+    }
 }
 
 /// Look-ups one way: how many, how many of them found, and at which places, the oldest at 1.
@@ -60,7 +98,7 @@ impl LookUps {
     }
 }
 
-/// Notes by chance: AMDs of an alias with its own Node ID or with another's, AMRs, and frames of any sort.
+/// Notes by chance, with bit 28 as 0 and as 1: AMDs of an alias with its own Node ID or with another's, AMRs, and frames of any sort.
 pub fn notes(rng: &mut Prng, count: usize) -> Vec<Note> {
     let (others, amrs) = (rng.pick(&[0, 3, 30, 100]), rng.pick(&[0, 2, 20, 45]));
     (0..count).map(|_| note(rng, others, amrs)).collect()
@@ -69,9 +107,10 @@ pub fn notes(rng: &mut Prng, count: usize) -> Vec<Note> {
 fn note(rng: &mut Prng, others: usize, amrs: usize) -> Note {
     let alias = rng.below(FEW);
     let id = if rng.percent(others) { rng.below(FEW) } else { alias } as u64;
-    let field = if rng.percent(amrs) { 0x0703 } else { 0x0701 };
+    let field = if rng.percent(amrs) { AMR } else { AMD };
+    let parts = Header { bit_28: rng.percent(70), message: false, field, alias: Alias(alias as u16) };
     let any = rng.number();
-    let mut note = Note { kind: 0, header: 0x1000_0000 | field << 12 | alias as u32, len: 6, bytes: id << 16 | any & 0xFFFF };
+    let mut note = Note { kind: 0, header: header::join(parts), len: 6, bytes: id << 16 | any & 0xFFFF };
     match rng.below(40) {
         0 => note.kind = rng.pick(&[1, 2, 3, 255]),
         1 => note.len = rng.pick(&[0, 5, 7, 8, 9, 255]),
@@ -88,17 +127,15 @@ pub fn compare(notes: &[Note], counts: &mut Counts) -> Result<(), String> {
     let (mut proved, mut plain) = (ProvedMap::new(), AliasMap::new());
     let mut words = proved.words().to_vec();
     for note in notes {
-        let code = proved.note(note.kind, note.header, note.len, note.bytes);
-        let frame = Frame { kind: note.kind, header: note.header, len: note.len, data: note.bytes.to_be_bytes() };
-        let answer = plain.note(&frame);
+        let before = plain.clone();
+        let code = note.proved(&mut proved);
+        let answer = plain.note(&note.frame());
         same(|| format!("{note} answers"), code, answered(answer, |()| []).0)?;
         if code != 0 && proved.words() != words {
             return Err(format!("{note} is refused and changes the map"));
         }
         words.copy_from_slice(proved.words());
-        counts.notes += 1;
-        counts.malformed += usize::from(answer == Err(Refusal::Malformed));
-        counts.full += usize::from(answer == Err(Refusal::MapFull));
+        counts.add(note, answer, &before, &plain);
         look_ups(&proved, &plain, note, counts)?;
         if proved.words() != words || !proved.guards_hold() {
             return Err(format!("after {note}: a look-up changes the map, or a word beside it has changed"));
@@ -152,7 +189,7 @@ mod tests {
     fn what_only_one_side_notes_is_found() {
         let (mut proved, mut plain) = (ProvedMap::new(), AliasMap::new());
         assert_eq!(look_ups(&proved, &plain, &NOTE, &mut Counts::default()), Ok(()));
-        assert_eq!(proved.note(NOTE.kind, NOTE.header, NOTE.len, NOTE.bytes), 0);
+        assert_eq!(NOTE.proved(&mut proved), 0);
         assert!(look_ups(&proved, &plain, &NOTE, &mut Counts::default()).is_err());
         plain.note(&Frame::with_node_id(NOTE.header, 9)).expect("room");
         assert_eq!(look_ups(&proved, &plain, &NOTE, &mut Counts::default()), Ok(()));
@@ -164,7 +201,7 @@ mod tests {
         let other = Note { header: NOTE.header + 1, bytes: 10 << 16, ..NOTE };
         let (mut proved, mut plain) = (ProvedMap::new(), AliasMap::new());
         for (first, second) in [(NOTE, other), (other, NOTE)] {
-            assert_eq!(proved.note(first.kind, first.header, first.len, first.bytes), 0);
+            assert_eq!(first.proved(&mut proved), 0);
             plain.note(&Frame::with_node_id(second.header, second.bytes >> 16)).expect("room");
         }
         let what = look_ups(&proved, &plain, &NOTE, &mut Counts::default()).expect_err("the counts differ");
@@ -181,6 +218,7 @@ mod tests {
             compare(&notes(&mut Prng::new(seed), 400), &mut counts).expect("both sides agree");
         }
         assert!(counts.full > 20 && counts.malformed > 20);
+        assert!([false, true].map(|bit_28| counts.changed(bit_28)).concat().iter().all(|&count| count > 20));
         for look_ups in [&counts.by_alias, &counts.by_id] {
             assert_eq!(look_ups.never_hit(), []);
             assert!(look_ups.done > look_ups.found && look_ups.found > 64);

@@ -8,6 +8,7 @@ pub mod map;
 pub mod operation;
 pub mod pair;
 pub mod seen;
+pub mod twins;
 
 use crate::card::MARK;
 use reference::Refusal;
@@ -34,8 +35,14 @@ pub fn answered<const N: usize, T>(answer: Result<T, Refusal>, words: impl FnOnc
 
 /// Fails with both values where they differ.
 pub fn same<T: PartialEq + Debug>(what: impl Fn() -> String, proved: T, plain: T) -> Result<(), String> {
-    if proved == plain {
+    alike(what, ["proved", "plain Rust"], [proved, plain])
+}
+
+/// Fails where two values differ, with both, each after its name.
+pub fn alike<T: PartialEq + Debug>(what: impl Fn() -> String, names: [&str; 2], values: [T; 2]) -> Result<(), String> {
+    let ([name, other], [value, another]) = (names, values);
+    if value == another {
         return Ok(());
     }
-    Err(format!("{}: proved {proved:X?}, plain Rust {plain:X?}", what()))
+    Err(format!("{}: {name} {value:X?}, {other} {another:X?}", what()))
 }

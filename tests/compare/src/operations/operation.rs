@@ -3,6 +3,7 @@
 use super::{put_out, Answered};
 use crate::card::{Card, MARK};
 use reference::generate::coverage::Coverage;
+use reference::generate::twin::twin_command;
 use reference::{Answer, Command, Frame, Segment};
 use std::fmt;
 
@@ -74,6 +75,11 @@ impl Operation {
             Operation::Release { index } => Command::Release { index: byte(index)? },
             Operation::Link { index, state } => Command::Link { index: byte(index)?, state },
         })
+    }
+
+    /// The operation with bit 28 of its foreign frame turned, if it has one.
+    pub fn twin(&self) -> Operation {
+        self.command().map_or(*self, |command| twin_command(&command).into())
     }
 
     /// By the proved library: its answer, and the words of the frame that left.
