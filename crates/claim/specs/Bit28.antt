@@ -7,7 +7,7 @@ use Prim.Native.Nat.{ℕ, _<_}
 use Rattle.headers.specs.Rules.{bitIn}
 use Rattle.headers.specs.declared.frame.Frame.{Frame}
 use Rattle.node.specs.Rules.{wait, next, dueOf}
-use Rattle.node.specs.Bit28.{sends-28-as-1}
+use Rattle.node.specs.Laws.{sends-28-as-1}
 use Rattle.state.specs.Answers.{answerAs}
 use Rattle.state.specs.declared.Answer as A
 use Rattle.segment_rules.specs.Rules.{places, limit, Command, start, run}

@@ -1,9 +1,9 @@
--- A.5: a node sends bit 28 as 1 and ignores it on receipt.
+-- A.5: nodes ignore bit 28.
 use mathlib.Core.Path.{_≡_, refl, ap, _∙_}
 use mathlib.Core.Bool.{true, cond, _&&_, _||_}
 use Prim.Native.Nat.{ℕ}
 use lib.Dec.{eqb}
-use Rattle.headers.specs.Rules.{bitIn, idIn}
+use Rattle.headers.specs.Rules.{idIn}
 use Rattle.headers.specs.Bit28.{But28, alias-but-28, kind-but-28, malformed-but-28}
 use Rattle.headers.specs.declared.frame.Frame.{Frame}
 use Rattle.node.specs.Rules.{
@@ -35,18 +35,10 @@ use Rattle.node.specs.Rules.{
   done,
   resulting,
   onReceive,
-  next,
-  dueOf,
   receive,
   outcome,
 }
-use Rattle.node.specs.Sound.{Sound}
-use Rattle.node.specs.Laws.{due-frame}
 use Rattle.node.specs.declared.Node.{Node}
-
--- Nodes send 1: whatever frame is due, under any wait.
-pub sends-28-as-1 : (n : Node) → Sound n → (w : ℕ) (f : Frame) → dueOf w n ≡ next f → bitIn (f .header) ≡ 1
-sends-28-as-1 n h w f e = due-frame n h w f e .formed .bit
 
 module _ (n : Node) (f g : Frame) (b : But28 f g) where
   own-but-28 : isOwn (n .own .id) f ≡ isOwn (n .own .id) g
