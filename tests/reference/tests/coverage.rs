@@ -159,8 +159,9 @@ fn cover_after(field: u16, alias: Alias, bit_28: bool) -> Coverage {
     cover
 }
 
+/// With 1 it is heard, and no other is; with 0 it is a cell of the table.
 #[test]
-fn a_frame_is_heard_with_its_own_bit_28_alone() {
+fn a_frame_counts_by_its_own_bit_28_alone() {
     let own = Alias(0x263);
     let frames = [
         (0x7050, own, Heed::OwnCid),
@@ -169,12 +170,14 @@ fn a_frame_is_heard_with_its_own_bit_28_alone() {
         (AMD, Alias(1), Heed::Amd),
     ];
     for (field, alias, heed) in frames {
-        for bit_28 in [false, true] {
-            let met = Heard { state: State::Permitted, heed, bit_28 };
-            let missing = cover_after(field, alias, bit_28).missing_heard();
-            let others = Heard::all().into_iter().filter(|heard| *heard != met);
-            assert_eq!(missing, others.collect::<Vec<_>>());
-            assert_eq!(missing.len(), 19);
+        let met = Heard { state: State::Permitted, heed };
+        let others: Vec<_> = Heard::all().into_iter().filter(|heard| *heard != met).collect();
+        assert_eq!(others.len(), 9);
+        let cleared = |(_, event): &(Row, Event)| *event == Event::DeliverBit28Clear(heed);
+        for (bit_28, missing) in [(false, Heard::all()), (true, others)] {
+            let cover = cover_after(field, alias, bit_28);
+            assert_eq!(cover.missing_heard(), missing);
+            assert_eq!(cover.met.keys().any(cleared), !bit_28);
         }
     }
 }

@@ -36,15 +36,18 @@ fn reading_after_writing_returns_the_parts() {
     }
 }
 
-/// Every field with both types and both bits.
+/// Every field with both types and both bits: with its own bit 28 it is the same header, and with 1
+/// the one with that bit set, as document 01 has it.
 #[test]
 fn writing_back_a_reading_returns_the_header_unless_its_alias_is_0() {
     for above in 0..=HEADER_MAX >> 12 {
         for alias in [0, 1, 0x263, 0x800, 0xFFF] {
             let header = above << 12 | alias;
-            let again = header::write(header::read(header).unwrap());
-            let expected = if alias == 0 { Err(Refusal::Malformed) } else { Ok(header) };
-            assert_eq!(again, expected, "{header:08X}");
+            let read = header::read(header).unwrap();
+            let or_9 = |header| if alias == 0 { Err(Refusal::Malformed) } else { Ok(header) };
+            assert_eq!(header::write(read), or_9(header), "{header:08X}");
+            let set = Header { bit_28: true, ..read };
+            assert_eq!(header::write(set), or_9(header | 1 << 28), "{header:08X}");
         }
     }
 }

@@ -6,7 +6,8 @@
 
 use compare::operations::map::{self, Counts, LookUps};
 use compare::operations::operation::Operation;
-use compare::operations::{corners, cover, headers, list, pair, twins};
+use compare::operations::twins::{self, MapCounts};
+use compare::operations::{corners, cover, headers, list, pair};
 use compare::setting::{fresh_seed, setting};
 use compare::shrink::fewest;
 use reference::generate::coverage::Coverage;
@@ -108,7 +109,7 @@ impl Run {
     fn compare_twins(&mut self, list: &[Operation], whose: &str) {
         twins::compare(list, &mut self.twins).unwrap_or_else(|what| {
             let differs = |less: &[Operation]| twins::compare(less, &mut twins::Counts::default()).err();
-            report(list, whose, &what, "card_new(table);", differs)
+            report_twins(list, whose, &what, "card_new(table);", differs, Operation::twin)
         });
     }
 
@@ -131,7 +132,7 @@ impl Run {
         }
         let unmet = self.cover.missing_heard();
         if !unmet.is_empty() {
-            fail(&format!("these frames were never delivered with this bit 28: {unmet:?}"));
+            fail(&format!("these frames were never delivered with bit 28 as 1: {unmet:?}"));
         }
         let Run { lists, late, done, far, links, .. } = self;
         println!("operations: {done} commands agree, SEED={seed}: in {lists} lists, {late} of them late;");
@@ -141,19 +142,19 @@ impl Run {
     }
 
     fn end_twins(&self) {
-        let twins::Counts { commands, turned, apart } = self.twins;
-        if apart == 0 {
-            fail("no frame in an inbox of twin tables differed in bit 28");
-        }
+        let twins::Counts { commands, turned, delivered, .. } = self.twins;
         println!("operations: {commands} commands on twin tables, {turned} foreign frames among them with bit 28 turned in one, agree:");
-        println!(
-            "operations: the same answers, and after each the same nodes, due frames and inboxes, but for bit 28 of {apart} frames"
-        );
+        println!("operations: the same answers, and after each the same nodes, due frames and inboxes, but for that bit;");
+        let heard: Vec<String> = self.twins.heard().map(|(state, count)| format!("{count} changed a {state:?} node")).collect();
+        println!("operations: {delivered} frames were delivered with it turned: of them {}", heard.join(", "));
+        if self.twins.heard().any(|(_, count)| count == 0) {
+            fail("on twin tables some frame with bit 28 turned shall change a node in each of these states");
+        }
     }
 }
 
 fn compare_maps(seed: u64) {
-    let mut counts = Counts::default();
+    let (mut counts, mut twin_counts) = (Counts::default(), MapCounts::default());
     for number in 0.. {
         if counts.notes >= NOTES {
             break;
@@ -166,12 +167,21 @@ fn compare_maps(seed: u64) {
             let differs = |less: &[map::Note]| map::compare(less, &mut Counts::default()).err();
             report(&notes, &format!("made by SEED={seed}"), &what, "map_new(map);", differs);
         }
-        if let Err(what) = twins::compare_maps(&notes) {
-            let differs = |less: &[map::Note]| twins::compare_maps(less).err();
-            report(&notes, &format!("made by SEED={seed}"), &what, "map_new(map);", differs);
+        if let Err(what) = twins::compare_maps(&notes, &mut twin_counts) {
+            let differs = |less: &[map::Note]| twins::compare_maps(less, &mut MapCounts::default()).err();
+            report_twins(&notes, &format!("made by SEED={seed}"), &what, "map_new(map);", differs, map::Note::twin);
         }
     }
     end_maps(&counts);
+    end_twin_maps(&twin_counts);
+}
+
+fn end_twin_maps(counts: &MapCounts) {
+    let MapCounts { notes, changes } = counts;
+    println!("operations: {notes} notes on twin maps leave the same map, {changes} of them changes with bit 28 turned in one");
+    if *changes == 0 {
+        fail("on twin maps some note with bit 28 turned shall change the map");
+    }
 }
 
 fn end_maps(counts: &Counts) {
@@ -184,7 +194,6 @@ fn end_maps(counts: &Counts) {
          and in how many entries they compare:"
     );
     end_look_ups([("alias", by_alias), ("Node ID", by_id)]);
-    println!("operations: the same notes with bit 28 turned leave the same map;");
     for bit_28 in [false, true] {
         let (bit, [entered, replaced, removed]) = (u8::from(bit_28), counts.changed(bit_28));
         println!("operations: with bit 28 as {bit}, {entered} AMDs entered, {replaced} replaced, and {removed} AMRs removed");
@@ -218,9 +227,41 @@ fn report<T: Clone + PartialEq + Display>(
     start: &str,
     differs: impl Fn(&[T]) -> Option<String>,
 ) -> ! {
+    let list = shortest(list, whose, what, start, &differs);
+    fail(&differs(&list).unwrap_or_default());
+}
+
+/// The same for two tables or maps that differ: then the calls on the other too.
+fn report_twins<T: Clone + PartialEq + Display>(
+    list: &[T],
+    whose: &str,
+    what: &str,
+    start: &str,
+    differs: impl Fn(&[T]) -> Option<String>,
+    twin: impl Fn(&T) -> T,
+) -> ! {
+    let list = shortest(list, whose, what, start, &differs);
+    println!("/* operations: and the same with bit 28 of foreign frames turned, which shall do the same: */");
+    print_calls(start, &list.iter().map(twin).collect::<Vec<_>>());
+    fail(&differs(&list).unwrap_or_default());
+}
+
+/// Prints the shortest list found that still differs, and gives it.
+fn shortest<T: Clone + PartialEq + Display>(
+    list: &[T],
+    whose: &str,
+    what: &str,
+    start: &str,
+    differs: &impl Fn(&[T]) -> Option<String>,
+) -> Vec<T> {
     eprintln!("operations: {what}; leaving out calls ..");
     let list = fewest(list.to_vec(), |less| differs(less).is_some());
     println!("/* operations: a list {whose} differs; of it this is enough: */");
+    print_calls(start, &list);
+    list
+}
+
+fn print_calls<T: PartialEq + Display>(start: &str, list: &[T]) {
     println!("{start}");
     for run in list.chunk_by(|one, next| one == next) {
         match run {
@@ -228,5 +269,4 @@ fn report<T: Clone + PartialEq + Display>(
             more => println!("for (int i = 0; i < {}; i++) {}", more.len(), more[0]),
         }
     }
-    fail(&differs(&list).unwrap_or_default());
 }

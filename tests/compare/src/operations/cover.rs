@@ -1,4 +1,4 @@
-//! How often each state of a node met each event, drawn as a table; how often a frame to heed came with either bit 28; and how often
+//! How often each state of a node met each event, drawn as a table; how often a frame to heed came with bit 28 as 1; and how often
 //! each link mark was met.
 
 use reference::generate::coverage::{reachable, Coverage, Event, Row};
@@ -31,7 +31,7 @@ fn label(event: Event) -> String {
         Event::Answer(byte, refusal) => format!("{}, refused {refusal}", COMMANDS[usize::from(byte) - 1]),
         Event::EnquiryTaken { all } => format!("enquiry for {}", if all { "all" } else { "one" }),
         Event::Deliver(case) => format!("deliver {case:?}"),
-        Event::DeliverBit28Clear(heed) => format!("deliver {heed:?}, bit 28 at 0"),
+        Event::DeliverBit28Clear(heed) => format!("deliver {heed:?}, bit 28 as 0"),
         Event::DeliverAliasZero(heed) => format!("deliver {heed:?}, alias 0"),
         Event::BusFrame => "another node's frame comes".to_string(),
         Event::ForeignFrame => "a foreign frame comes".to_string(),
@@ -59,14 +59,13 @@ pub fn table(cover: &Coverage) -> String {
     text
 }
 
-/// A line for each frame to heed at each state in which it matters: how often it was delivered with bit 28 as 0 and as 1.
+/// A line for each frame to heed at each state in which it matters: how often it was delivered with bit 28 as 1.
 pub fn heard(cover: &Coverage) -> String {
-    let count = |frame| cover.marks.counts.get(&Mark::Heard(frame)).unwrap_or(&0);
-    let mut text = format!("{:<50}{:>11}{:>11}", "frames to heed, by bit 28", "as 0", "as 1");
-    for frame in Heard::all().into_iter().filter(|frame| !frame.bit_28) {
+    let mut text = format!("{:<61}{:>11}", "frames to heed with bit 28 as 1", "met");
+    for frame in Heard::all() {
         let label = format!("deliver {:?} in {:?}", frame.heed, frame.state);
-        let [zero, one] = [false, true].map(|bit_28| count(Heard { bit_28, ..frame }));
-        write!(text, "\n{label:<50}{zero:>11}{one:>11}").expect("a string takes it");
+        let count = cover.marks.counts.get(&Mark::Heard(frame)).unwrap_or(&0);
+        write!(text, "\n{label:<61}{count:>11}").expect("a string takes it");
     }
     text
 }

@@ -51,8 +51,11 @@ fn fields(counts: &mut Counts) -> Result<(), String> {
     Ok(())
 }
 
-/// Headers of 29 bits, an odd step apart, so that every bit changes; and each with bits above them.
+/// Headers of 29 bits, an odd step apart, so that every bit changes; and each with bits above them, the highest numbers too.
 fn spread(counts: &mut Counts) -> Result<(), String> {
+    for header in [header::HEADER_MAX, header::HEADER_MAX + 1, 1 << 30, u32::MAX] {
+        read(header, counts)?;
+    }
     for number in 0..SPREAD {
         let header = number.wrapping_mul(0x9E37_79B1);
         read(header & header::HEADER_MAX, counts)?;

@@ -13,10 +13,10 @@ use std::fmt;
 /// A frame to be noted.
 #[derive(Clone, Copy, Debug, PartialEq, Eq)]
 pub struct Note {
-    kind: u8,
-    header: u32,
-    len: u8,
-    bytes: u64,
+    pub kind: u8,
+    pub header: u32,
+    pub len: u8,
+    pub bytes: u64,
 }
 
 /// The call in C.

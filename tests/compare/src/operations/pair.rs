@@ -74,7 +74,7 @@ impl Pair {
 
     /// What the proved table shows of its nodes.
     fn seen(&self) -> [Seen; Segment::PLACES] {
-        std::array::from_fn(|index| put_out(|words| self.card.look(index, words)).1)
+        std::array::from_fn(|index| seen::shown(&self.card, index))
     }
 
     /// Looks at everything. That changes nothing.

@@ -1,9 +1,32 @@
 //! What card_look shows of a node: the words for a node of the other implementation, and the claim by such words.
 
+use super::put_out;
+use crate::card::Card;
 use reference::{Alias, Frame, Node, State};
 
 /// The words in the order of c/card.h: state, Node ID, alias, whether a frame is due, its header, length and data, inbox.
 pub type Seen = [u64; 12];
+
+/// What the proved table shows of a node.
+pub fn shown(card: &Card, index: usize) -> Seen {
+    put_out(|words| card.look(index, words)).1
+}
+
+/// How many frames stand in its inbox.
+pub fn inbox(&[_, _, _, _, _, _, _, inbox, ..]: &Seen) -> usize {
+    inbox as usize
+}
+
+/// The node alone.
+pub fn without_inbox(mut seen: Seen) -> Seen {
+    let [_, _, _, _, _, _, _, inbox, ..] = &mut seen;
+    *inbox = 0;
+    seen
+}
+
+pub fn is_in(state: State, seen: &Seen) -> bool {
+    seen[0] == state_word(state)
+}
 
 /// What c/card.h says is seen of a node.
 pub fn of(node: &Node, inbox: usize) -> Seen {

@@ -90,7 +90,7 @@ pub enum Event {
     },
     /// A frame of this case is delivered.
     Deliver(Case),
-    /// The same with bit 28 at 0: own alias and CID, own alias and other, AME or AMD to heed.
+    /// The same with bit 28 as 0: own alias and CID, own alias and other, AME or AMD to heed.
     DeliverBit28Clear(Heed),
     /// An AME or AMD to heed that has alias 0.
     DeliverAliasZero(Heed),
@@ -390,7 +390,7 @@ impl Coverage {
         Mark::all().into_iter().filter(|mark| !self.marks.met(mark)).collect()
     }
 
-    /// The frames that must be heard, each with its bit 28, and were not.
+    /// The frames that must be heard with bit 28 as 1, and were not.
     pub fn missing_heard(&self) -> Vec<Heard> {
         let met = |heard: &Heard| self.marks.met(&Mark::Heard(*heard));
         Heard::all().into_iter().filter(|heard| !met(heard)).collect()
