@@ -1,5 +1,6 @@
 //! Frames that came onto the bus with bit 28 as 0: how many, and under which aliases.
 
+use std::cmp::Reverse;
 use std::collections::BTreeMap;
 
 use crate::watch::Moment;
@@ -29,11 +30,13 @@ impl Bit28 {
         format!("{frames} came with bit 28 as 0, under {aliases}")
     }
 
-    /// Each alias in order, with its frames.
-    pub fn aliases(&self) -> impl ExactSizeIterator<Item = String> + '_ {
+    /// Each alias with its frames, those with most frames first.
+    pub fn aliases(&self) -> impl ExactSizeIterator<Item = String> {
+        let mut aliases: Vec<(&u16, &usize)> = self.frames.iter().collect();
+        aliases.sort_by_key(|&(_, count)| Reverse(count));
         let frames = |count| words::count(count, "frame", "frames");
-        self.frames
-            .iter()
-            .map(move |(alias, count)| format!("alias {alias:03X}: {}", frames(*count)))
+        let named =
+            |(alias, count): (&u16, &usize)| format!("alias {alias:03X}: {}", frames(*count));
+        aliases.into_iter().map(named).collect::<Vec<_>>().into_iter()
     }
 }

@@ -8,10 +8,11 @@ use crate::link::Link;
 pub const PLACES: usize = 24;
 pub const WORDS: usize = 1928;
 
-/// The words that `card_send`, `card_look` and `card_inbox` write.
+/// The words that `card_send`, `card_look`, `card_inbox` and `lcc_read_header` write.
 type Sent = [u64; 3];
 type Look = [u64; 12];
 type Held = [u64; 4];
+type Read = [u64; 7];
 
 include!(concat!(env!("CARGO_MANIFEST_DIR"), "/../c/card.rs"));
 
@@ -80,6 +81,29 @@ pub struct Seen {
     pub due: Option<Frame>,
     /// How many frames stand in the inbox.
     pub inbox: usize,
+}
+
+/// What `lcc_read_header` reads off a header, its kind by the number that c/card.h gives it.
+#[derive(Clone, Copy, Debug, PartialEq, Eq)]
+pub struct Parts {
+    pub field: u16,
+    pub kind: u64,
+    /// Of a CID or an error report.
+    pub number: u8,
+    /// Of a CID.
+    pub section: u16,
+    /// As it came (request A.5).
+    pub bit_28: bool,
+}
+
+/// The parts of a header, if it has no more than 29 bits.
+pub fn read_header(header: u32) -> Option<Parts> {
+    let mut parts: Read = [0; 7];
+    // SAFETY: `parts` has the seven words that the operation writes, and it takes any header.
+    let code = unsafe { lcc_read_header(header, parts.as_mut_ptr()) };
+    let [_, field, _, kind, number, section, bit] = parts;
+    let (field, number, section) = (field as u16, number as u8, section as u16);
+    (code == 0).then_some(Parts { field, kind, number, section, bit_28: bit == 1 })
 }
 
 /// A card of 24 nodes.

@@ -1,4 +1,6 @@
-//! A frame: its kind, header, length and data, and how a header is read.
+//! A frame: its kind, header, length and data, and what its header says.
+
+use crate::card::{read_header, Parts};
 
 /// The kinds of frames, as command 06 numbers them.
 pub const EXTENDED: u8 = 0;
@@ -8,7 +10,6 @@ pub const ELEVEN_BIT: u8 = 2;
 /// The place of bit 28, which is sent as 1, though some equipment sends 0; and bit 27, which a message has.
 const BIT_28: u32 = 28;
 const MESSAGE: u32 = 1 << 27;
-const HEADER_MAX: u32 = (1 << 29) - 1;
 
 /// The duplicate report's field, and its data by request A.2: an event number, which has eight bytes.
 const REPORT_FIELD: u16 = 0x15B4;
@@ -38,20 +39,17 @@ pub enum Sort {
 }
 
 impl Sort {
-    /// The sort of a header of 29 bits; bit 28 is ignored.
-    pub fn of_header(header: u32) -> Sort {
-        let field = (header >> 12 & 0x7FFF) as u16;
-        if header & MESSAGE != 0 {
-            return Sort::Message(field);
-        }
-        match field {
-            0x1000..=0x7FFF => Sort::Cid((field >> 12) as u8, field & 0xFFF),
-            0x0700 => Sort::Rid,
-            0x0701 => Sort::Amd,
-            0x0702 => Sort::Ame,
-            0x0703 => Sort::Amr,
-            0x0710..=0x0713 => Sort::ErrorReport((field & 3) as u8),
-            _ => Sort::Reserved(field),
+    /// By what the library reads off a header.
+    fn of(Parts { kind, field, number, section, .. }: Parts) -> Sort {
+        match kind {
+            0 => Sort::Cid(number, section),
+            1 => Sort::Rid,
+            2 => Sort::Amd,
+            3 => Sort::Ame,
+            4 => Sort::Amr,
+            5 => Sort::ErrorReport(number),
+            6 => Sort::Reserved(field),
+            _ => Sort::Message(field),
         }
     }
 
@@ -101,9 +99,14 @@ impl Frame {
         &self.data[..usize::from(self.len.min(8))]
     }
 
+    /// What its header says, where it has 29 bits.
+    fn parts(&self) -> Option<Parts> {
+        self.has_bit_28().then(|| read_header(self.header))?
+    }
+
     /// What it is, where it is an extended frame with a header of 29 bits.
     pub fn sort(&self) -> Option<Sort> {
-        (self.kind == EXTENDED && self.header <= HEADER_MAX).then(|| Sort::of_header(self.header))
+        self.parts().filter(|_| self.kind == EXTENDED).map(Sort::of)
     }
 
     /// The alias of its sender.
@@ -116,9 +119,9 @@ impl Frame {
         matches!(self.kind, EXTENDED | REMOTE)
     }
 
-    /// Whether the tool marks it (request A.5): its header has 29 bits at most, and bit 28 of them as 0.
+    /// Whether the tool marks it (request A.5): its header has 29 bits, and came with bit 28 as 0.
     pub fn has_bit_28_as_0(&self) -> bool {
-        self.has_bit_28() && self.header >> BIT_28 == 0
+        self.parts().is_some_and(|parts| !parts.bit_28)
     }
 
     /// The same with bit 28 as 0 or 1.

@@ -142,8 +142,9 @@ fn refused_frames_did_not_come() {
 fn the_summary_ends_with_the_aliases() {
     let ages =
         "An inbox frame stood for 0 ticks at most, a reply RID or AMR waited for 0 at most.\n";
-    let many: String = (1..=12).map(|alias| format!("foreign RID {alias:X} bit28 0\n")).collect();
-    let ten: String = (1..=10).map(|alias| format!("  alias {alias:03X}: 1 frame\n")).collect();
+    // Under alias 00C come two.
+    let many = (1..=12).chain([12]).map(|alias| format!("foreign RID {alias:X} bit28 0\n"));
+    let nine: String = (1..=9).map(|alias| format!("  alias {alias:03X}: 1 frame\n")).collect();
     let lists = [
         ("foreign RID 263\nforeign short 263\n".into(), String::new()),
         (
@@ -154,10 +155,13 @@ fn the_summary_ends_with_the_aliases() {
             "foreign 00704FFF\nforeign remote 07050263\nforeign RID FFF\nforeign AMD 0 bit28 0\nforeign CID 7 FFF bit28 0\n"
                 .into(),
             "4 frames came with bit 28 as 0, under 3 aliases:\n  \
-             alias 000: 1 frame\n  alias 263: 1 frame\n  alias FFF: 2 frames\n"
+             alias FFF: 2 frames\n  alias 000: 1 frame\n  alias 263: 1 frame\n"
                 .into(),
         ),
-        (many, format!("12 frames came with bit 28 as 0, under 12 aliases:\n{ten}  and 2 more\n")),
+        (
+            many.collect::<String>(),
+            format!("13 frames came with bit 28 as 0, under 12 aliases:\n  alias 00C: 2 frames\n{nine}  and 2 more\n"),
+        ),
     ];
     for (list, end) in lists {
         let summary = shown(&list).summary;

@@ -90,6 +90,26 @@ fn marks_are_drawn_over_other_frames() {
     are_apart(&places(&picture, &["bit28"]), &[], &picture);
 }
 
+/// However close they lie, a mark does not reach the middle of another frame.
+#[test]
+fn marks_leave_other_frames_to_be_seen() {
+    for count in [10, 60, 120, 200] {
+        let pair = "foreign RID 111 bit28 0\ndeliver 0\nforeign RID 111\ndeliver 0\n".repeat(count);
+        let picture = shown(&format!("on 0 050101010101\n{pair}")).picture;
+        let (marks, others) = (places(&picture, &["bit28"]), places(&picture, &["foreign"]));
+        assert_eq!((marks.len(), others.len()), (count + 1, count + 1), "with the legend's");
+        let middle = |place: &Place| (place.left + place.right) / 2.0;
+        let middles = others.iter().map(|place| Place {
+            left: middle(place),
+            right: middle(place),
+            ..*place
+        });
+        for place in middles {
+            assert!(!marks.iter().any(|mark| mark.meets(&place)), "{place:?}, of {count} pairs");
+        }
+    }
+}
+
 /// Of so many frames not each is drawn, since they would cover one another; one with bit 28 as 0 among them is.
 #[test]
 fn a_mark_is_not_left_out_for_other_frames() {

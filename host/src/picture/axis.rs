@@ -12,6 +12,8 @@ pub struct Fold {
 pub struct Axis {
     pub left: f64,
     pub right: f64,
+    /// The room of a step of weight 1.
+    pub unit: f64,
     /// The commands that are drawn, with their places.
     steps: Vec<(usize, f64)>,
     /// The ticks that are drawn, with where they begin.
@@ -38,16 +40,17 @@ impl Axis {
         let fold = FOLD.min(FOLDS_SHARE * (right - left) / folds.max(1.0));
         let unit = (right - left - fold * folds) / units.max(1.0);
         let mut axis =
-            Axis { left, right, steps: Vec::new(), ticks: Vec::new(), folds: Vec::new() };
+            Axis { left, right, unit, steps: Vec::new(), ticks: Vec::new(), folds: Vec::new() };
         let mut x = left;
         for part in &parts {
-            x = axis.put(part, steps, x, unit, fold);
+            x = axis.put(part, steps, x, fold);
         }
         axis
     }
 
     /// Puts a part at this place; gives the place after it.
-    fn put(&mut self, part: &Part, steps: &[Step], x: f64, unit: f64, fold: f64) -> f64 {
+    fn put(&mut self, part: &Part, steps: &[Step], x: f64, fold: f64) -> f64 {
+        let unit = self.unit;
         match *part {
             Part::Fold(ticks) => {
                 self.folds.push(Fold { left: x, width: fold, ticks });

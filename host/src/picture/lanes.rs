@@ -3,15 +3,17 @@
 use std::collections::HashSet;
 
 use super::axis::Axis;
-use super::record::{OnBus, Record};
+use super::record::{OnBus, Record, WIDE};
 use super::svg::{Anchor, Svg};
 use crate::frame::Frame;
 use crate::watch::Sender;
 use crate::words;
 
 pub const LANE: f64 = 11.0;
-/// Half the width and half the height of a frame that came with bit 28 as 0.
-const DIAMOND: (f64, f64) = (4.2, 5.0);
+/// Half the width of a frame of an exhibit.
+const HALF: f64 = 1.0;
+/// Half the width and half the height of a frame that came with bit 28 as 0, where there is room.
+pub const DIAMOND: (f64, f64) = (4.2, 5.0);
 
 /// The lanes' names from top to bottom, those alone of which a frame was seen.
 pub struct Lanes {
@@ -51,7 +53,7 @@ impl Lanes {
             svg.line((axis.left, y), (axis.right, y), "lane");
             svg.text(axis.left - 8.0, y + 3.2, "small", Anchor::End, name);
         }
-        // Frames with bit 28 as 0 lie over the others, so that none of them is covered.
+        // Frames with bit 28 as 0 lie over the others, so that none of them is covered, and reach the middle of no other.
         for as_0 in [false, true] {
             let frames = record.frames.iter().filter(|f| f.frame.has_bit_28_as_0() == as_0);
             self.marks(svg, frames, axis, hits);
@@ -71,21 +73,27 @@ impl Lanes {
             let hit = hits.contains(&on_bus.count);
             // Marks that would cover one another are drawn once.
             if hit || place.1 != last.1 || place.0 - last.0 > 0.7 {
-                mark(svg, on_bus, place, hit);
+                mark(svg, on_bus, place, hit, narrowed(axis));
                 last = place;
             }
         }
     }
 }
 
-fn mark(svg: &mut Svg, on_bus: &OnBus, (x, y): (f64, f64), hit: bool) {
+/// A diamond as wide as its step on the axis, and no narrower than a frame of an exhibit.
+fn narrowed(axis: &Axis) -> (f64, f64) {
+    let (wide, high) = DIAMOND;
+    (wide.min(WIDE * axis.unit / 2.0).max(HALF), high)
+}
+
+fn mark(svg: &mut Svg, on_bus: &OnBus, (x, y): (f64, f64), hit: bool, size: (f64, f64)) {
     let OnBus { count, frame, from } = on_bus;
     let whose = words::of_sender(frame, *from);
     let title = format!("{}{whose}, command {count}", words::frame(frame));
     if frame.has_bit_28_as_0() {
-        return diamond(svg, (x, y), if hit { "bit28-hit" } else { "bit28" }, &title);
+        return diamond(svg, (x, y), size, if hit { "bit28-hit" } else { "bit28" }, &title);
     }
-    let (half, high) = (if hit { 1.6 } else { 1.0 }, LANE - 3.0);
+    let (half, high) = (if hit { 1.6 } else { HALF }, LANE - 3.0);
     let place = [x - half, y - high / 2.0, 2.0 * half, high];
     match (on_bus.from, hit) {
         (Sender::Node(_), false) => svg.rect_with(place, "frame", &title),
@@ -97,9 +105,14 @@ fn mark(svg: &mut Svg, on_bus: &OnBus, (x, y): (f64, f64), hit: bool) {
     }
 }
 
-/// A frame that came with bit 28 as 0.
-pub fn diamond(svg: &mut Svg, (x, y): (f64, f64), class: &str, title: &str) {
-    let (wide, high) = DIAMOND;
+/// A frame that came with bit 28 as 0; half its width, and half its height.
+pub fn diamond(
+    svg: &mut Svg,
+    (x, y): (f64, f64),
+    (wide, high): (f64, f64),
+    class: &str,
+    title: &str,
+) {
     svg.shape_with(&[(x, y - high), (x + wide, y), (x, y + high), (x - wide, y)], class, title);
 }
 

@@ -79,7 +79,7 @@ fn overdue_signs(svg: &mut Svg, left: f64, y: f64, drawn: &Signs) {
 
 fn bit_28_sign(svg: &mut Svg, left: f64, y: f64) {
     let text = "foreign frame that came with bit 28 as 0";
-    lanes::diamond(svg, (left + 8.0, y), "bit28", text);
+    lanes::diamond(svg, (left + 8.0, y), lanes::DIAMOND, "bit28", text);
     svg.text(left + 20.0, y + 4.0, "", Anchor::Start, text);
 }
 

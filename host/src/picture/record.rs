@@ -39,7 +39,7 @@ pub struct Overdue {
 }
 
 /// The room of what collided, of a frame that came with bit 28 as 0, and of a link order, beside that of another frame on the bus.
-const WIDE: f64 = 3.0;
+pub const WIDE: f64 = 3.0;
 
 #[derive(Default)]
 pub struct Record {
