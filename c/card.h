@@ -157,10 +157,10 @@ enum { MAP_FOUND_VALUE, MAP_FOUND_COMPARED, MAP_FOUND_WORDS };
 
 /* HEADERS AND ALIASES, as the standard has them */
 
-/* The header of a frame. bit: bit 28, which nodes send as 1. type: 0 control, 1 message. 9. */
+/* The header of a frame. bit: bit 28, 0 or 1; nodes send 1. type: 0 control, 1 message. 9. */
 uint64_t lcc_write_header(uint8_t bit, uint8_t type, uint16_t field, uint16_t alias, uint64_t header[1]);
 
-/* What a header says, bit 28 as it came. Writing it back with that bit gives the same header, unless its alias is 0. 9. */
+/* What a header says, bit 28 as it came. Writing it back with that bit gives the same header, or 9 where its alias is 0. 9. */
 uint64_t lcc_read_header(uint32_t header, uint64_t parts[7]);
 
 /* The places of `parts`. */
