@@ -1,8 +1,8 @@
-//! Single calls, the proved ones and the same in plain Rust: looking up in a full map, noting, reading headers. A call of the library
-//! goes through a pointer, which the linker fills in; so does one in plain Rust, which is not inlined either.
+//! Single calls, the proved ones and the same in plain Rust: looking up in a full map, noting, reading and writing headers. A call of the
+//! library goes through a pointer, which the linker fills in; so does one in plain Rust, which is not inlined either.
 
-use crate::card::{read_header, ProvedMap};
-use crate::operations::headers::parts;
+use crate::card::{read_header, write_header, ProvedMap};
+use crate::operations::headers::{parts, write};
 use crate::operations::put_out;
 use reference::header;
 use reference::{Alias, AliasMap, Frame, Refusal};
@@ -37,7 +37,7 @@ fn full() -> (ProvedMap, AliasMap) {
 }
 
 /// As the call for C has it: the answer is 0 or the refusal's number; what a look-up found and how many entries it compared, or the
-/// parts that were read, go into words that are lent.
+/// parts that were read, or the header that was written, go into words that are lent.
 fn as_for_c<const N: usize>(answer: Result<[u64; N], Refusal>, lent: &mut [u64; N]) -> u64 {
     match answer {
         Ok(words) => {
@@ -66,6 +66,11 @@ fn plain_note(map: &mut AliasMap, frame: &Frame) -> Result<(), Refusal> {
 #[inline(never)]
 fn plain_read(header: u32, words: &mut [u64; 7]) -> u64 {
     as_for_c(header::read(header).map(parts), words)
+}
+
+#[inline(never)]
+fn plain_write(bit: u8, class: u8, field: u16, alias: u16, header: &mut [u64; 1]) -> u64 {
+    as_for_c(write(bit, class, field, alias).map(|written| [written]), header)
 }
 
 /// Looking `key` up in a full map, which gives these two words, or 13 where there are none.
@@ -126,20 +131,51 @@ fn noting(name: &'static str, first: u64, answered: u64) -> Row {
     }
 }
 
+/// A header of each kind, some with bit 28 as 0.
+const HEADERS: [u32; 8] =
+    [0x1705_0263, 0x0070_0263, 0x1070_1263, 0x0070_2263, 0x1070_3263, 0x0071_2263, 0x1070_4263, 0x095B_4263];
+
 fn reading() -> Row {
-    let headers = [0x1705_0263, 0x0070_0263, 0x1070_1263, 0x0070_2263, 0x1070_3263, 0x0071_2263, 0x1070_4263, 0x095B_4263];
     let plain_call: fn(u32, &mut [u64; 7]) -> u64 = black_box(plain_read);
-    for header in headers {
+    for header in HEADERS {
         assert_eq!(put_out(|words| read_header(header, words)), put_out(|words| plain_call(header, words)));
     }
     let (mut words, mut plain_words) = ([0; 7], [0; 7]);
     Row {
-        name: "header, eight kinds in turn",
+        name: "header read, eight kinds",
         proved: Box::new(move |turn| {
-            black_box(read_header(black_box(headers[turn as usize % 8]), &mut words));
+            black_box(read_header(black_box(HEADERS[turn as usize % 8]), &mut words));
         }),
         plain: Box::new(move |turn| {
-            black_box(plain_call(black_box(headers[turn as usize % 8]), &mut plain_words));
+            black_box(plain_call(black_box(HEADERS[turn as usize % 8]), &mut plain_words));
+        }),
+    }
+}
+
+/// What the same headers are written from: bit 28, type, field and alias.
+fn written_from(header: u32) -> (u8, u8, u16, u16) {
+    let [class, field, alias, .., bit] = put_out(|words| read_header(header, words)).1;
+    (bit as u8, class as u8, field as u16, alias as u16)
+}
+
+fn writing() -> Row {
+    let operands = HEADERS.map(written_from);
+    let plain_call: fn(u8, u8, u16, u16, &mut [u64; 1]) -> u64 = black_box(plain_write);
+    for ((bit, class, field, alias), header) in operands.into_iter().zip(HEADERS) {
+        let written = (0, [header.into()]);
+        assert_eq!(put_out(|words| write_header(bit, class, field, alias, words)), written);
+        assert_eq!(put_out(|words| plain_call(bit, class, field, alias, words)), written);
+    }
+    let (mut words, mut plain_words) = ([0; 1], [0; 1]);
+    Row {
+        name: "header written, the same",
+        proved: Box::new(move |turn| {
+            let (bit, class, field, alias) = operands[black_box(turn) as usize % 8];
+            black_box(write_header(bit, class, field, alias, &mut words));
+        }),
+        plain: Box::new(move |turn| {
+            let (bit, class, field, alias) = operands[black_box(turn) as usize % 8];
+            black_box(plain_call(bit, class, field, alias, &mut plain_words));
         }),
     }
 }
@@ -153,6 +189,6 @@ pub fn look_ups() -> [[Row; 3]; 2] {
 }
 
 /// All other calls.
-pub fn others() -> [Row; 3] {
-    [noting("full map, oldest renewed", 0, 0), noting("full map, refused by 12", 64, 12), reading()]
+pub fn others() -> [Row; 4] {
+    [noting("full map, oldest renewed", 0, 0), noting("full map, refused by 12", 64, 12), reading(), writing()]
 }

@@ -82,6 +82,7 @@ pub fn cid_field(number: u8, section: Section) -> u16 {
 }
 
 /// Writes a header; 9 for a field above 15 bits, alias 0 or an alias above 12 bits.
+#[inline]
 pub fn write(parts: Header) -> Result<u32, Refusal> {
     let Header { field, alias, .. } = parts;
     if field > FIELD_MAX || alias.0 == 0 || alias.0 > ALIAS_MAX {

@@ -83,11 +83,7 @@ fn aliases(rng: &mut Prng, counts: &mut Counts) -> Result<(), String> {
 fn written(bit: u8, class: u8, field: u16, alias: u16, counts: &mut Counts) -> Result<(), String> {
     let call = || format!("lcc_write_header({bit}, {class}, 0x{field:04X}, 0x{alias:03X}, header)");
     let proved = put_out(|header| write_header(bit, class, field, alias, header));
-    let plain = match (bit, class) {
-        (0 | 1, 0 | 1) => header::write(Header { bit_28: bit == 1, message: class == 1, field, alias: Alias(alias) }),
-        _ => Err(Refusal::Malformed),
-    };
-    same(call, proved, answered(plain, |header| [header.into()]))?;
+    same(call, proved, answered(write(bit, class, field, alias), |header| [header]))?;
     counts.calls += 1;
     let (0, [header]) = proved else { return Ok(()) };
     let [read_class, read_field, read_alias, .., read_bit] = read(header as u32, counts)?;
@@ -118,6 +114,15 @@ fn write_back(header: u32, [class, field, alias, .., bit]: [u64; 7], counts: &mu
     counts.written_back += usize::from(alias != 0);
     counts.alias_zero += usize::from(alias == 0);
     Ok(())
+}
+
+/// Header writing in plain Rust with any numbers as bit 28 and type, as c/card.h has it.
+pub fn write(bit: u8, class: u8, field: u16, alias: u16) -> Result<u64, Refusal> {
+    if bit > 1 || class > 1 {
+        return Err(Refusal::Malformed);
+    }
+    let parts = Header { bit_28: bit == 1, message: class == 1, field, alias: Alias(alias) };
+    header::write(parts).map(u64::from)
 }
 
 /// The words of a header's parts, as c/card.h has them.
