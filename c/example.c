@@ -93,7 +93,7 @@ static void run(unsigned milliseconds) {
     }
 }
 
-/* A frame of other equipment, in every inbox until it is delivered; its kind and its bit 28 as exhibit 0 has it there. */
+/* A frame of other equipment, in every inbox until it is delivered; its kind and bit 28 as exhibit 0 has them there. */
 static void foreign(const char *what, uint8_t bit, uint8_t type, uint16_t field, uint64_t alias, uint8_t len, uint64_t bytes) {
     uint64_t header[1], frame[CARD_FRAME_WORDS], parts[LCC_PARTS_WORDS];
     lcc_write_header(bit, type, field, (uint16_t)alias, header);
@@ -139,8 +139,7 @@ static void degrade(size_t exhibit) {
            KINDS[parts[LCC_PARTS_KIND]], parts[LCC_PARTS_NUMBER], seen(exhibit, CARD_SEEN_DUE_HEADER));
 }
 
-/* Host orders, an alias that other equipment takes, a Node ID that is there twice, of equipment that sends bit 28 as 0, a send that
-   fails. */
+/* Host orders, an alias that other equipment takes, a Node ID that equipment with bit 28 as 0 has too, a send that fails. */
 static void work(void) {
     card_message(table, 3, 0x05B4, 2, UINT64_C(0xABCD000000000000));
     card_enquiry(table, 4, 6, node_id(5) << 16);

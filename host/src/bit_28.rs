@@ -31,12 +31,12 @@ impl Bit28 {
     }
 
     /// Each alias with its frames, those with most frames first.
-    pub fn aliases(&self) -> impl ExactSizeIterator<Item = String> {
+    pub fn aliases(&self) -> impl ExactSizeIterator<Item = String> + '_ {
         let mut aliases: Vec<(&u16, &usize)> = self.frames.iter().collect();
         aliases.sort_by_key(|&(_, count)| Reverse(count));
         let frames = |count| words::count(count, "frame", "frames");
         let named =
-            |(alias, count): (&u16, &usize)| format!("alias {alias:03X}: {}", frames(*count));
-        aliases.into_iter().map(named).collect::<Vec<_>>().into_iter()
+            move |(alias, count): (&u16, &usize)| format!("alias {alias:03X}: {}", frames(*count));
+        aliases.into_iter().map(named)
     }
 }

@@ -90,7 +90,7 @@ fn marks_are_drawn_over_other_frames() {
     are_apart(&places(&picture, &["bit28"]), &[], &picture);
 }
 
-/// However close they lie, a mark does not reach the middle of another frame.
+/// Of as many as 200 pairs in one lane no mark reaches the middle of another frame.
 #[test]
 fn marks_leave_other_frames_to_be_seen() {
     for count in [10, 60, 120, 200] {
@@ -99,12 +99,8 @@ fn marks_leave_other_frames_to_be_seen() {
         let (marks, others) = (places(&picture, &["bit28"]), places(&picture, &["foreign"]));
         assert_eq!((marks.len(), others.len()), (count + 1, count + 1), "with the legend's");
         let middle = |place: &Place| (place.left + place.right) / 2.0;
-        let middles = others.iter().map(|place| Place {
-            left: middle(place),
-            right: middle(place),
-            ..*place
-        });
-        for place in middles {
+        for other in others {
+            let place = Place { left: middle(&other), right: middle(&other), ..other };
             assert!(!marks.iter().any(|mark| mark.meets(&place)), "{place:?}, of {count} pairs");
         }
     }

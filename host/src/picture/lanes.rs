@@ -53,7 +53,7 @@ impl Lanes {
             svg.line((axis.left, y), (axis.right, y), "lane");
             svg.text(axis.left - 8.0, y + 3.2, "small", Anchor::End, name);
         }
-        // Frames with bit 28 as 0 lie over the others, so that none of them is covered, and reach the middle of no other.
+        // Frames with bit 28 as 0 lie over the others, so that none of them is covered.
         for as_0 in [false, true] {
             let frames = record.frames.iter().filter(|f| f.frame.has_bit_28_as_0() == as_0);
             self.marks(svg, frames, axis, hits);
@@ -67,20 +67,21 @@ impl Lanes {
         axis: &Axis,
         hits: &HashSet<usize>,
     ) {
-        let mut last = (f64::MIN, f64::MIN);
+        let (size, mut last) = (narrowed(axis), (f64::MIN, f64::MIN));
         for on_bus in frames {
             let place = (axis.at(on_bus.count), self.middle(&on_bus.frame));
             let hit = hits.contains(&on_bus.count);
             // Marks that would cover one another are drawn once.
             if hit || place.1 != last.1 || place.0 - last.0 > 0.7 {
-                mark(svg, on_bus, place, hit, narrowed(axis));
+                mark(svg, on_bus, place, hit, size);
                 last = place;
             }
         }
     }
 }
 
-/// A diamond as wide as its step on the axis, and no narrower than a frame of an exhibit.
+/// Half the width and half the height of a diamond: no wider than its step on the axis, so that the frames beside it are seen, and no
+/// narrower than a frame of an exhibit.
 fn narrowed(axis: &Axis) -> (f64, f64) {
     let (wide, high) = DIAMOND;
     (wide.min(WIDE * axis.unit / 2.0).max(HALF), high)

@@ -92,7 +92,7 @@ impl Run {
     fn compare(&mut self, list: &[Operation], whose: &str, with_twins: bool) -> Limits {
         let greatest = pair::compare(list, &mut self.cover).unwrap_or_else(|what| {
             let differs = |less: &[Operation]| pair::compare(less, &mut Coverage::new()).err();
-            report(list, whose, &what, "card_new(table);", differs)
+            report(list, whose, &what, "card_new(table);", differs, Operation::clone)
         });
         if with_twins {
             self.compare_twins(list, whose);
@@ -109,7 +109,7 @@ impl Run {
     fn compare_twins(&mut self, list: &[Operation], whose: &str) {
         twins::compare(list, &mut self.twins).unwrap_or_else(|what| {
             let differs = |less: &[Operation]| twins::compare(less, &mut twins::Counts::default()).err();
-            report_twins(list, whose, &what, "card_new(table);", differs, Operation::twin)
+            report(list, whose, &what, "card_new(table);", differs, Operation::twin)
         });
     }
 
@@ -165,11 +165,11 @@ fn compare_maps(seed: u64) {
         let notes = map::notes(&mut rng, count);
         if let Err(what) = map::compare(&notes, &mut counts) {
             let differs = |less: &[map::Note]| map::compare(less, &mut Counts::default()).err();
-            report(&notes, &format!("made by SEED={seed}"), &what, "map_new(map);", differs);
+            report(&notes, &format!("made by SEED={seed}"), &what, "map_new(map);", differs, map::Note::clone);
         }
         if let Err(what) = twins::compare_maps(&notes, &mut twin_counts) {
             let differs = |less: &[map::Note]| twins::compare_maps(less, &mut MapCounts::default()).err();
-            report_twins(&notes, &format!("made by SEED={seed}"), &what, "map_new(map);", differs, map::Note::twin);
+            report(&notes, &format!("made by SEED={seed}"), &what, "map_new(map);", differs, map::Note::twin);
         }
     }
     end_maps(&counts);
@@ -219,46 +219,26 @@ fn fail(what: &str) -> ! {
     exit(1);
 }
 
-/// Prints the shortest list found that still differs, as calls in C, and ends the run.
+/// Prints the shortest list found that still differs, as calls in C, and ends the run; the calls on the second of two tables or maps
+/// too, where these are others.
 fn report<T: Clone + PartialEq + Display>(
     list: &[T],
     whose: &str,
     what: &str,
     start: &str,
     differs: impl Fn(&[T]) -> Option<String>,
+    second: impl Fn(&T) -> T,
 ) -> ! {
-    let list = shortest(list, whose, what, start, &differs);
-    fail(&differs(&list).unwrap_or_default());
-}
-
-/// The same for two tables or maps that differ: then the calls on the other too.
-fn report_twins<T: Clone + PartialEq + Display>(
-    list: &[T],
-    whose: &str,
-    what: &str,
-    start: &str,
-    differs: impl Fn(&[T]) -> Option<String>,
-    twin: impl Fn(&T) -> T,
-) -> ! {
-    let list = shortest(list, whose, what, start, &differs);
-    println!("/* operations: and the same with bit 28 of foreign frames turned, which shall do the same: */");
-    print_calls(start, &list.iter().map(twin).collect::<Vec<_>>());
-    fail(&differs(&list).unwrap_or_default());
-}
-
-/// Prints the shortest list found that still differs, and gives it.
-fn shortest<T: Clone + PartialEq + Display>(
-    list: &[T],
-    whose: &str,
-    what: &str,
-    start: &str,
-    differs: &impl Fn(&[T]) -> Option<String>,
-) -> Vec<T> {
     eprintln!("operations: {what}; leaving out calls ..");
     let list = fewest(list.to_vec(), |less| differs(less).is_some());
     println!("/* operations: a list {whose} differs; of it this is enough: */");
     print_calls(start, &list);
-    list
+    let seconds: Vec<T> = list.iter().map(second).collect();
+    if seconds != list {
+        println!("/* operations: and the same with bit 28 of foreign frames turned, which shall do the same: */");
+        print_calls(start, &seconds);
+    }
+    fail(&differs(&list).unwrap_or_default());
 }
 
 fn print_calls<T: PartialEq + Display>(start: &str, list: &[T]) {

@@ -12,7 +12,7 @@ use reference::{Segment, State};
 const NAMES: [&str; 2] = ["as it is", "with bit 28 turned"];
 
 /// The states in which some frame changes a node.
-pub const HEARING: [State; 3] = [State::Testing, State::Reserved, State::Permitted];
+const HEARING: [State; 3] = [State::Testing, State::Reserved, State::Permitted];
 
 /// What was compared of tables.
 #[derive(Clone, Copy, Debug, Default, PartialEq, Eq)]
