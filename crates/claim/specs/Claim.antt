@@ -7,7 +7,7 @@ use Prim.Native.Nat.{ℕ, _+_, _*_, _<_, _≤_}
 use native.Mathlib.Omega.{arith}
 use lib.Dec.{ltb}
 use borrow.Author.Tests.{not-true, not-false, lt-ltb, ltb-true}
-use Rattle.node.specs.Rules.{Answer, accepted, refused, Value, timedFor, wait, uses, offNode, next, dueOf}
+use Rattle.node.specs.Rules.{Answer, accepted, refused, Value, timedFor, wait, uses, offNode, isOff, next, dueOf}
 use Rattle.state.specs.Answers.{answerAs}
 use Rattle.state.specs.declared.Answer as A
 use Rattle.headers.specs.declared.frame.Frame.{Frame}
@@ -51,6 +51,7 @@ use Rattle.table.specs.Words.{Cell, frameOf, nodeAt, inbox, placeOf, agesOf, ce
 use Rattle.table.specs.WordLaws.{view-at}
 use Rattle.table.specs.ClockLaws.{around-step, old-around}
 use Rattle.claim.specs.Single.{both, single, one-meaning}
+use Rattle.claim.specs.NodeIds.{apart-run}
 use Rattle.table.specs.Promise.{around, allAround, OldestFirst, bound, SoundWords, Done, Does}
 
 -- A LIST, carried out by the code: the commands cs, one after another on one table from all nodes Off, answered as and left
@@ -90,6 +91,9 @@ pub record Claim (cs : List Command) (xs : List A.Answer) (t : List ℕ) : Type 
   -- A.3: aliases stay single for every such i and o, where in the list no inbox frame's age exceeds i and no reply RID's or AMR's
   -- exceeds o
   pub single : (i o : ℕ) → Allowed i o → isKept i o cs ≡ true → SingleAliases t
+  -- A.6: no two nodes that are not Off have one Node ID, be the list kept or late
+  pub one-holder : (p q : ℕ) → p < places → q < places → p ≢ q
+      → isOff (nodeAt t p .phase) ≡ false → isOff (nodeAt t q .phase) ≡ false → nodeAt t p .own .id ≢ nodeAt t q .own .id
 
 -- LISTS WITH ONE MORE COMMAND
 
@@ -281,7 +285,7 @@ module _ {cs : List Command} {xs : List A.Answer} {t : List ℕ} (r : Carried cs
 pub below-wait : (i o : ℕ) → Allowed i o → (2 * i + o < wait) × (i + 2 * o < wait)
 below-wait i o h = (omega (arith, h .0), omega (arith, h .1))
 
--- DEMAND 3, for any number of commands and any operands, equal Node IDs at two indexes included.
+-- DEMAND 3, for any number of commands and any operands.
 pub claim : {cs : List Command} {xs : List A.Answer} {t : List ℕ} → Carried cs xs t → Claim cs xs t
 claim {cs} {xs} {t} r = record {
   answered = follows r .answered;
@@ -298,6 +302,10 @@ claim {cs} {xs} {t} r = record {
         (ap (dueOf wait) (sym (same-node r q hq)) ∙ dg)
         x;
   };
+  one-holder = λ p q hp hq ne u v x. apart-run cs p q hp hq ne
+      (ap (λ (n : Node). isOff (n .phase)) (sym (same-node r p hp)) ∙ u)
+      (ap (λ (n : Node). isOff (n .phase)) (sym (same-node r q hq)) ∙ v)
+      (ap (λ (n : Node). n .own .id) (sym (same-node r p hp)) ∙ x ∙ ap (λ (n : Node). n .own .id) (same-node r q hq));
 }
 
 -- Document 01's limits, 40 and 40, are one case.

@@ -2,6 +2,7 @@
 pub mod Claim
 pub mod Sharp
 pub mod Single
+pub mod NodeIds
 pub mod Sight
 pub mod Bus
 pub mod Bit28

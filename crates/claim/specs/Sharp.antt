@@ -40,7 +40,7 @@ use Rattle.segment_rules.specs.Rules.{
   powerOn,
   deliver,
   release,
-  roomBut,
+  someOther,
   run,
   old,
   kept,
@@ -88,7 +88,7 @@ lateAmr i o again = asked i o ++ release 0 ∷ replicate again tick ++ send 1 �
 pub broken :
     Broken 68 65 (lateReply 68 65 68) × Broken 65 68 (lateAmr 65 68 68) × Broken 67 67 (lateReply 67 67 67)
     × Broken 101 0 (lateReply 101 0 100) × Broken 100 1 (lateReply 100 1 100) × Broken 0 101 (lateAmr 0 101 100) × Broken 1 100 (lateAmr 1 100 100)
-unfolding run roomBut old kept offNode fresh moved counted waits cidFrame ridFrame amdFrame firstWaiting dueOf tickOf sentPermitted sentOf sameAlias received onPowerOn onLeave onRelease kindIn
+unfolding run someOther old kept offNode fresh moved counted waits cidFrame ridFrame amdFrame firstWaiting dueOf tickOf sentPermitted sentOf sameAlias received onPowerOn onLeave onRelease kindIn
 broken = (
   record { within = refl; alias = 0x263; first = (refl, refl); second = (refl, refl) },
   record { within = refl; alias = 0x263; first = (refl, refl); second = (refl, refl) },

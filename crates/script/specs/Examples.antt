@@ -26,7 +26,7 @@ use Rattle.node.specs.Rules.{
   refused,
   left,
 }
-use Rattle.segment_rules.specs.Rules.{roomBut, old, kept}
+use Rattle.segment_rules.specs.Rules.{someOther, old, kept}
 use Rattle.script.specs.Rules.{
   number,
   form,
@@ -62,7 +62,7 @@ text =
     ∷ []
 
 pub example : output script ≡ text
-unfolding script text number form readOf onward readUpTo listed digit hex decimalUpTo dataText answerText line lines lastLine outputOf output roomBut old kept offNode fresh restart moved counted waits cidFrame ridFrame amdFrame amrFrame reportFrame firstWaiting dueOf sentOf failedOf onPowerOn onLeave kindIn mixed
+unfolding script text number form readOf onward readUpTo listed digit hex decimalUpTo dataText answerText line lines lastLine outputOf output someOther old kept offNode fresh restart moved counted waits cidFrame ridFrame amdFrame amrFrame reportFrame firstWaiting dueOf sentOf failedOf onPowerOn onLeave kindIn mixed
 example = refl
 
 -- 12345 FF refused 10

@@ -1,7 +1,7 @@
 -- How long an output can be: a script of 65,536 bytes has at most as many lines of 38 bytes, and a last one of 5.
 use mathlib.Core.Path.{_≡_, subst, subst⁻¹}
 use Prim.Native.Nat.{ℕ, zero, suc, _+_, _*_, _≤_, _<_}
-use mathlib.Core.Bool.{Bool, not}
+use mathlib.Core.Bool.{Bool}
 use mathlib.Core.List.{List}
 use native.Mathlib.Omega.{arith}
 use lib.Dec.{leb}
@@ -26,10 +26,12 @@ use Rattle.segment_rules.specs.Rules.{
   send,
   tick,
   foreign,
-  thenRoom,
-  roomBut,
+  someOther,
+  isFull,
   isEmpty,
+  thenRefuse,
   answerAt,
+  idInUse,
   answer,
   step,
 }
@@ -57,9 +59,9 @@ use Rattle.script.specs.Text.{line-short, last-short}
 
 -- THE SEGMENT'S REFUSALS have two digits at most
 
-two-room : (a : Answer Value) (room : Bool) → TwoDigits a → TwoDigits (thenRoom a room)
-two-room (accepted v) room t = two-refuse (not room) 5 (accepted v) (omega arith) tt
-two-room (refused n) room t = t
+two-then : (a : Answer Value) (b : Bool) (k : ℕ) → k < 100 → TwoDigits a → TwoDigits (thenRefuse a b k)
+two-then (accepted v) b k h t = two-refuse b k (accepted v) h tt
+two-then (refused n) b k h t = t
 
 two-at : (p : Place) (x : Act) → TwoDigits (answerAt p x)
 two-at p (orders x) = two-digits wait (p .node) (N.order x)
@@ -68,15 +70,17 @@ two-at p delivers =
     (two-refuse (isEmpty (p .inbox)) 6 (accepted done) (omega arith) tt)
 
 two-answer : (S : Segment) (c : Command) → TwoDigits (answer S c)
-two-answer S (one n x) = two-refuse (leb places n) 1 (answerAt (S .at n) x) (omega arith) (two-at (S .at n) x)
+two-answer S (one n x) =
+    two-refuse (leb places n) 1 (thenRefuse (answerAt (S .at n) x) (idInUse S n x) 15) (omega arith)
+    (two-then (answerAt (S .at n) x) (idInUse S n x) 15 (omega arith) (two-at (S .at n) x))
 two-answer S (send n) =
-    let a = thenRoom (onLeave wait (S .at n .node) .answer) (roomBut n places S) in
-    two-refuse (leb places n) 1 a (omega arith)
-    (two-room (onLeave wait (S .at n .node) .answer) (roomBut n places S) (two-digits wait (S .at n .node) N.leave))
+    let a = onLeave wait (S .at n .node) .answer in
+    let b = someOther isFull n places S in
+    two-refuse (leb places n) 1 (thenRefuse a b 5) (omega arith) (two-then a b 5 (omega arith) (two-digits wait (S .at n .node) N.leave))
 two-answer S tick = tt
 two-answer S (foreign f) =
-    two-refuse (malformed f) 9 (refuse (not (roomBut places places S)) 5 (accepted done)) (omega arith)
-    (two-refuse (not (roomBut places places S)) 5 (accepted done) (omega arith) tt)
+    two-refuse (malformed f) 9 (refuse (someOther isFull places places S) 5 (accepted done)) (omega arith)
+    (two-refuse (someOther isFull places places S) 5 (accepted done) (omega arith) tt)
 
 -- THE LINES of a script
 

@@ -1,14 +1,15 @@
 -- A.5 over lists: whatever bit 28 foreign equipment sends, every answer and every node are the same, the inboxes are too but for
 -- that bit, and one list is kept where the other is. What two lists of commands and two segments are that differ in no more stands
 -- first, and what is claimed of them (`RunsBut28`) last; these are to be believed.
-use mathlib.Core.Path.{_≡_, refl, sym, ap, subst, _∙_}
+use mathlib.Core.Path.{_≡_, refl, ap, subst, _∙_}
 use mathlib.Core.Bool.{Bool, true, false, not, cond, _&&_, _||_}
 use mathlib.Core.List.{List, [], _∷_, _++_}
 use Prim.Native.Nat.{ℕ, zero, suc}
-use lib.Dec.{ltb, eqb}
+use lib.Dec.{ltb, leb, eqb}
 use lib.ListN.{length}
 use Rattle.headers.specs.Bit28.{But28, itself, malformed-but-28, trimmed-but-28}
 use Rattle.headers.specs.declared.frame.Frame.{Frame}
+use Rattle.node.specs.Rules as N
 use Rattle.node.specs.Rules.{Answer, accepted, refused, refuse, Value, done, left, wait, isOff, tickOf, trimmed, onOrder, onLeave}
 use Rattle.node.specs.Bit28.{received-but-28}
 use Rattle.node.specs.declared.Node.{Node}
@@ -26,11 +27,14 @@ use Rattle.segment_rules.specs.Rules.{
   send,
   tick,
   foreign,
-  roomBut,
+  someOther,
+  isFull,
   isEmpty,
-  thenRoom,
+  hasId,
+  thenRefuse,
   indexed,
   answerAt,
+  idInUse,
   answer,
   Effect,
   stays,
@@ -132,10 +136,22 @@ sent-by (refused number) m own p q e = refl
 -- ONE COMMAND, on two such segments
 
 module _ (S T : Segment) (h : SegmentsBut28 S T) where
-  room-but-28 : (i n : ℕ) → roomBut i n S ≡ roomBut i n T
-  unfolding roomBut
-  room-but-28 i zero = refl
-  room-but-28 i (suc n) = λ z. (eqb n i || ltb (length-but-28 (h n .inbox) z) inboxRoom) && room-but-28 i n z
+  other-but-28 : (Q : Place → Bool) → ((k : ℕ) → Q (S .at k) ≡ Q (T .at k)) → (i n : ℕ) → someOther Q i n S ≡ someOther Q i n T
+  unfolding someOther
+  other-but-28 Q q i zero = refl
+  other-but-28 Q q i (suc n) = λ z. (not (eqb n i) && q n z) || other-but-28 Q q i n z
+
+  full-but-28 : (i n : ℕ) → someOther isFull i n S ≡ someOther isFull i n T
+  full-but-28 = other-but-28 isFull (λ k z. leb inboxRoom (length-but-28 (h k .inbox) z))
+
+  in-use-but-28 : (n : ℕ) (x : Act) → idInUse S n x ≡ idInUse T n x
+  in-use-but-28 n (orders (N.powerOn id)) = other-but-28 (hasId id) (λ k z. eqb (h k .node z .own .id) id && not (isOff (h k .node z .phase))) n places
+  in-use-but-28 n (orders N.fail) = refl
+  in-use-but-28 n (orders (N.message field len bytes)) = refl
+  in-use-but-28 n (orders (N.enquiry len bytes)) = refl
+  in-use-but-28 n (orders N.release) = refl
+  in-use-but-28 n (orders (N.link state)) = refl
+  in-use-but-28 n delivers = refl
 
   answered-at : (k : ℕ) (x : Act) → answerAt (S .at k) x ≡ answerAt (T .at k) x
   answered-at k (orders x) = ap (λ (n : Node). onOrder wait n x .answer) (h k .node)
@@ -144,11 +160,11 @@ module _ (S T : Segment) (h : SegmentsBut28 S T) where
 
   answered-foreign : (f g : Frame) → But28 f g → answer S (foreign f) ≡ answer T (foreign g)
   answered-foreign f g b =
-      λ z. refuse (malformed-but-28 f g b z) 9 (refuse (not (room-but-28 places places z)) 5 (accepted done))
+      λ z. refuse (malformed-but-28 f g b z) 9 (refuse (full-but-28 places places z) 5 (accepted done))
 
   answered : {c d : Command} → CommandsBut28 c d → answer S c ≡ answer T d
-  answered (same (one n x)) = ap (indexed n) (answered-at n x)
-  answered (same (send n)) = λ z. indexed n (thenRoom (onLeave wait (h n .node z) .answer) (room-but-28 n places z))
+  answered (same (one n x)) = λ z. indexed n (thenRefuse (answered-at n x z) (in-use-but-28 n x z) 15)
+  answered (same (send n)) = λ z. indexed n (thenRefuse (onLeave wait (h n .node z) .answer) (full-but-28 n places z) 5)
   answered (same tick) = refl
   answered (same (foreign f)) = answered-foreign f f (itself f)
   answered (turned {f} {g} b) = answered-foreign f g b

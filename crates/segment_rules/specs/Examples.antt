@@ -1,4 +1,5 @@
--- Worked examples of the segment's rules: sentences of document 01, of A.1 and of A.2, each at one segment, all in one statement.
+-- Worked examples of the segment's rules: sentences of document 01, of A.1, of A.2 and of A.6, each at one segment, all in one
+-- statement.
 use mathlib.Core.Path.{_≡_, refl}
 use mathlib.Core.Bool.{Bool, true, false, cond}
 use mathlib.Core.List.{List, [], _∷_}
@@ -64,7 +65,7 @@ use Rattle.node.specs.Rules.{
 use Rattle.headers.specs.declared.frame.Frame.{Frame}
 use Rattle.node.specs.declared.Node.{Node}
 use Rattle.state.specs.declared.Phase.{Phase}
-use Rattle.state.specs.declared.Phase.the-variants.{Testing, Reserved, Permitted, Leaving, Resting, Silent}
+use Rattle.state.specs.declared.Phase.the-variants.{Off, Testing, Reserved, Permitted, Leaving, Resting, Silent}
 use Rattle.state.specs.declared.Reason.the-variants.{Collision, Release}
 use Rattle.state.specs.declared.Waiting.{Waiting}
 use Rattle.state.specs.declared.Link.{Link}
@@ -90,7 +91,7 @@ use Rattle.segment_rules.specs.Rules.{
   enquiry,
   release,
   link,
-  roomBut,
+  someOther,
   answer,
   step,
   run,
@@ -192,12 +193,22 @@ many n = replicate n frame1
 abbrev pub oneByte : ℕ → Frame
 oneByte bytes = record { kind = 0; header = 0x195B4111; len = 1; bytes = bytes }
 
--- all nodes Off but one, but two
+-- the same under a Node ID that is 4095 higher, so that the first alias is the same
+abbrev pub beside : Node → Node
+beside n = record {
+  own = record { id = 0x050101011100; link = n .own .link };
+  alias = n .alias;
+  generator = 0x050101011100;
+  phase = n .phase;
+  waiting = n .waiting;
+}
+
+-- all nodes Off but one; but two, the second under that other Node ID
 abbrev pub alone : (index : ℕ) → Node → (inbox : List Frame) → Segment
 alone i n xs = segment (λ k. cond (eqb k i) (place n xs) blank)
 
 abbrev pub two : (index : ℕ) → Node → (inbox : List Frame) → (index : ℕ) → Node → (inbox : List Frame) → Segment
-two i n xs j m ys = segment (λ k. cond (eqb k i) (place n xs) (cond (eqb k j) (place m ys) blank))
+two i n xs j m ys = segment (λ k. cond (eqb k i) (place n xs) (cond (eqb k j) (place (beside m) ys) blank))
 
 -- ages at an index, of inbox frames and of what waits for any alias; elsewhere none
 abbrev pub agesAt : (index : ℕ) → List ℕ → ℕ → ℕ → Ages
@@ -268,10 +279,10 @@ ofPlaces =
     -- first in first out: a delivery takes the oldest frame, and the others stay in order
     makes (alone 3 permitted (ownMessage ∷ frame1 ∷ frame2 ∷ [])) (deliver 3) 3 leaving (frame1 ∷ frame2 ∷ [])
     -- and it concerns no other place
-    ∷ makes (two 3 permitted (ownMessage ∷ []) 4 permitted (ownMessage ∷ [])) (deliver 3) 4 permitted (ownMessage ∷ [])
+    ∷ makes (two 3 permitted (ownMessage ∷ []) 4 permitted (ownMessage ∷ [])) (deliver 3) 4 (beside permitted) (ownMessage ∷ [])
     -- a foreign frame joins the inbox of every node not Off, behind the others
     ∷ makes (two 0 testing [] 23 testing (frame1 ∷ [])) (foreign frame2) 0 testing (frame2 ∷ [])
-    ∷ makes (two 0 testing [] 23 testing (frame1 ∷ [])) (foreign frame2) 23 testing (frame1 ∷ frame2 ∷ [])
+    ∷ makes (two 0 testing [] 23 testing (frame1 ∷ [])) (foreign frame2) 23 (beside testing) (frame1 ∷ frame2 ∷ [])
     ∷ makes (two 0 testing [] 23 testing (frame1 ∷ [])) (foreign frame2) 3 offNode []
     -- a Resting node is not Off
     ∷ makes (alone 3 (inState Resting) []) (foreign frame2) 3 (inState Resting) (frame2 ∷ [])
@@ -279,11 +290,11 @@ ofPlaces =
     ∷ makes (alone 3 testing []) (foreign (oneByte 0xAB123456789ABCDE)) 3 testing (oneByte 0xAB00000000000000 ∷ [])
     -- a frame that leaves joins the inbox of every other node not Off, and not the sender's
     ∷ makes (two 3 testing (frame1 ∷ []) 4 permitted (frame1 ∷ [])) (send 3) 3 (inState (Testing 1 0)) (frame1 ∷ [])
-    ∷ makes (two 3 testing (frame1 ∷ []) 4 permitted (frame1 ∷ [])) (send 3) 4 permitted (frame1 ∷ ownCid ∷ [])
+    ∷ makes (two 3 testing (frame1 ∷ []) 4 permitted (frame1 ∷ [])) (send 3) 4 (beside permitted) (frame1 ∷ ownCid ∷ [])
     ∷ makes (two 3 testing (frame1 ∷ []) 4 permitted (frame1 ∷ [])) (send 3) 5 offNode []
     -- a tick goes to each node, and to no inbox
     ∷ makes (two 0 (inState (Testing 4 0)) (frame1 ∷ []) 23 (inState (Testing 4 7)) []) tick 0 (inState (Testing 4 1)) (frame1 ∷ [])
-    ∷ makes (two 0 (inState (Testing 4 0)) (frame1 ∷ []) 23 (inState (Testing 4 7)) []) tick 23 (inState (Testing 4 8)) []
+    ∷ makes (two 0 (inState (Testing 4 0)) (frame1 ∷ []) 23 (inState (Testing 4 7)) []) tick 23 (beside (inState (Testing 4 8))) []
     -- the 201st tick is the last that counts
     ∷ makes (alone 3 (inState (Testing 4 200)) []) tick 3 (inState (Testing 4 201)) []
     ∷ makes (alone 3 (inState (Testing 4 201)) []) tick 3 (inState (Testing 4 201)) []
@@ -303,8 +314,8 @@ ofPlaces =
     ∷ makes (alone 24 testing []) (foreign frame2) 24 testing []
     -- one after another from all nodes Off: document 01's script, and the place then
     ∷ lists (powerOn 0 0x050101010101 ∷ deliver 0 ∷ send 0 ∷ send 24 ∷ []) (accepted done ∷ refused 6 ∷ accepted (left ownCid) ∷ refused 1 ∷ []) 0 (inState (Testing 1 0)) []
-    -- equal Node IDs at two indexes are accepted; the second meets the first's CID, and starts again
-    ∷ lists (powerOn 0 0x050101010101 ∷ powerOn 1 0x050101010101 ∷ send 0 ∷ deliver 1 ∷ []) (accepted done ∷ accepted done ∷ accepted (left ownCid) ∷ accepted done ∷ []) 1 (restart testing) []
+    -- two nodes with one first alias: the second meets the first's CID, and starts again
+    ∷ lists (powerOn 0 0x050101010101 ∷ powerOn 1 0x050101011100 ∷ send 0 ∷ deliver 1 ∷ []) (accepted done ∷ accepted done ∷ accepted (left ownCid) ∷ accepted done ∷ []) 1 (restart (beside testing)) []
     ∷ []
 
 -- AGES
@@ -342,7 +353,7 @@ ofAges =
     -- power-on ends all
     ∷ ageing (alone 3 replying (frame1 ∷ [])) (agesAt 3 (9 ∷ []) 7) (powerOn 3 0x050101010101 ∷ []) 3 [] 0
     -- a command at another index changes none
-    ∷ ageing (two 3 replying (frame1 ∷ []) 4 testing []) (agesAt 3 (9 ∷ []) 7) (powerOn 4 0x050101010101 ∷ []) 3 (9 ∷ []) 7
+    ∷ ageing (two 3 replying (frame1 ∷ []) 4 testing []) (agesAt 3 (9 ∷ []) 7) (powerOn 4 0x050101010102 ∷ []) 3 (9 ∷ []) 7
     -- a refused command changes none
     ∷ ageing (alone 3 replying (frame1 ∷ [])) (agesAt 3 (9 ∷ []) 7) (powerOn 3 0 ∷ []) 3 (9 ∷ []) 7
     ∷ []
@@ -474,18 +485,51 @@ ofReports =
     -- the report's data is 01 01 00 00 00 00 02 01: as it is seen, as it leaves, as it joins another inbox
     ∷ shows (alone 3 duplicate []) 3 (sees 3 0x263 (next report) 0)
     ∷ says (alone 3 duplicate []) (send 3) (accepted (left report))
-    ∷ makes (two 3 duplicate [] 4 permitted []) (send 3) 4 permitted (report ∷ [])
+    ∷ makes (two 3 duplicate [] 4 permitted []) (send 3) 4 (beside permitted) (report ∷ [])
     -- it makes the node Silent
     ∷ makes (alone 3 duplicate []) (send 3) 3 (inState Silent) []
     -- all other frames as before: a message of the host with the field of the report and 002's seven bytes
     ∷ says (alone 3 (waits permitted (withHost noneWaiting (Message 0x15B4 7 0x0101000000020100))) []) (send 3) (accepted (left (record { kind = 0; header = 0x195B4263; len = 7; bytes = 0x0101000000020100 })))
     ∷ []
 
+-- NODE IDS AT POWER-ON (A.6)
+
+abbrev pub ofNodeIds : List Example
+ofNodeIds =
+    -- a Node ID in use at another index is 15, be it the first or the last; another Node ID is not
+    says (alone 0 testing []) (powerOn 3 0x050101010101) (refused 15)
+    ∷ says (alone 23 testing []) (powerOn 3 0x050101010101) (refused 15)
+    ∷ says (alone 0 testing []) (powerOn 3 0x050101010102) (accepted done)
+    -- compared is every other node that is not Off
+    ∷ says (alone 0 (inState Reserved) []) (powerOn 3 0x050101010101) (refused 15)
+    ∷ says (alone 0 permitted []) (powerOn 3 0x050101010101) (refused 15)
+    ∷ says (alone 0 leaving []) (powerOn 3 0x050101010101) (refused 15)
+    ∷ says (alone 0 (inState Resting) []) (powerOn 3 0x050101010101) (refused 15)
+    ∷ says (alone 0 (inState Silent) []) (powerOn 3 0x050101010101) (refused 15)
+    ∷ says (alone 0 (inState Off) []) (powerOn 3 0x050101010101) (accepted done)
+    -- there are 24 places
+    ∷ says (alone 24 testing []) (powerOn 3 0x050101010101) (accepted done)
+    -- the index's own earlier Node ID does not count, beside another too
+    ∷ says (alone 3 permitted []) (powerOn 3 0x050101010101) (accepted done)
+    ∷ says (two 3 permitted [] 4 permitted []) (powerOn 3 0x050101010101) (accepted done)
+    ∷ says (two 3 permitted [] 4 permitted []) (powerOn 4 0x050101010101) (refused 15)
+    -- and is in use no more once another has taken its place
+    ∷ lists (powerOn 3 0x050101010101 ∷ powerOn 3 0x050101010102 ∷ powerOn 4 0x050101010101 ∷ []) (accepted done ∷ accepted done ∷ accepted done ∷ []) 4 testing []
+    -- tested after 1 and 3
+    ∷ says (alone 3 testing []) (powerOn 24 0x050101010101) (refused 1)
+    ∷ says (alone 3 (fresh 0 (record { 0 = 1 })) []) (powerOn 4 0) (refused 3)
+    -- a power-on that is refused leaves node, inbox and ages as they were
+    ∷ makes (two 3 replying (frame1 ∷ []) 4 permitted []) (powerOn 3 0x050101011100) 3 replying (frame1 ∷ [])
+    ∷ ageing (two 3 replying (frame1 ∷ []) 4 permitted []) (agesAt 3 (9 ∷ []) 7) (powerOn 3 0x050101011100 ∷ []) 3 (9 ∷ []) 7
+    -- a wiring list with one Node ID in two lines: the second node stays Off
+    ∷ lists (powerOn 0 0x050101010101 ∷ powerOn 1 0x050101010101 ∷ send 0 ∷ deliver 1 ∷ []) (accepted done ∷ refused 15 ∷ accepted (left ownCid) ∷ refused 2 ∷ []) 1 offNode []
+    ∷ []
+
 abbrev pub examples : List (List Example)
-examples = ofAnswers ∷ ofPlaces ∷ ofAges ∷ ofKept ∷ ofLooks ∷ ofLinks ∷ ofReports ∷ []
+examples = ofAnswers ∷ ofPlaces ∷ ofAges ∷ ofKept ∷ ofLooks ∷ ofLinks ∷ ofReports ∷ ofNodeIds ∷ []
 
 pub examples-hold : AllOf examples
-unfolding roomBut run answers aged old kept seen looks frameIn looksIn offNode fresh restart moved counted waits linked cidFrame ridFrame amdFrame amrFrame reportFrame errorFrame isOwn firstWaiting dueOf tickOf sentPermitted sentOf failedOf sameAlias addressed otherAlias received malformed used trimmed onPowerOn onLeave onFail hostOrders onMessage onEnquiry onRelease linkTold onLink kindIn mixed
+unfolding someOther run answers aged old kept seen looks frameIn looksIn offNode fresh restart moved counted waits linked cidFrame ridFrame amdFrame amrFrame reportFrame errorFrame isOwn firstWaiting dueOf tickOf sentPermitted sentOf failedOf sameAlias addressed otherAlias received malformed used trimmed onPowerOn onLeave onFail hostOrders onMessage onEnquiry onRelease linkTold onLink kindIn mixed
 examples-hold = (
   (refl, (refl, (refl, (refl, (refl, (refl, (refl, (refl, (refl, (refl, (refl, (refl, (refl, (refl, (refl, (refl, (refl, (refl, (refl, (refl, (refl, (refl, (refl, (refl, (refl, (refl, (refl, (refl, (refl, (refl, (refl, (refl, tt)))))))))))))))))))))))))))))))),
   (
@@ -500,7 +544,10 @@ examples-hold = (
             (refl, (refl, (refl, (refl, (refl, (refl, (refl, (refl, (refl, (refl, (refl, (refl, (refl, (refl, (refl, (refl, (refl, (refl, (refl, (refl, (refl, (refl, (refl, (refl, (refl, (refl, (refl, (refl, (refl, (refl, (refl, (refl, (refl, (refl, (refl, (refl, (refl, (refl, (refl, tt))))))))))))))))))))))))))))))))))))))),
             (
               (refl, (refl, (refl, (refl, (refl, (refl, tt)))))),
-              tt,
+              (
+                (refl, (refl, (refl, (refl, (refl, (refl, (refl, (refl, (refl, (refl, (refl, (refl, (refl, ((refl, refl), (refl, (refl, (refl, ((refl, refl), ((refl, refl), tt))))))))))))))))))),
+                tt,
+              ),
             ),
           ),
         ),

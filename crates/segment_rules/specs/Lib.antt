@@ -4,4 +4,6 @@ pub mod Looks
 pub mod Limits
 pub mod Examples
 pub mod LimitLaws
+pub mod Others
+pub mod Accepted
 pub mod Bit28

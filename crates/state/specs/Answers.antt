@@ -21,6 +21,7 @@ refusalAs R.the-variants.NotPermitted = 7
 refusalAs R.the-variants.HostWaiting = 8
 refusalAs R.the-variants.Malformed = 9
 refusalAs R.the-variants.BadLinkState = 14
+refusalAs R.the-variants.NodeIdInUse = 15
 
 abbrev pub answerAs : A.Answer → Answer Value
 answerAs A.the-variants.Accepted = accepted done

@@ -20,6 +20,7 @@ impl Refusal {
             Refusal::HostWaiting => 8,
             Refusal::Malformed => 9,
             Refusal::BadLinkState => 14,
+            Refusal::NodeIdInUse => 15,
         }
     }
 }

@@ -80,7 +80,7 @@ pub enum Concern {
     Amd,
 }
 
-// The refusals 1 to 9 and 14, in the order of their numbers. A node alone gives those that need no segment.
+// The refusals 1 to 9, 14 and 15, in the order of their numbers. A node alone gives those that need no segment.
 pub enum Refusal {
     BadIndex,
     Off,
@@ -92,6 +92,7 @@ pub enum Refusal {
     HostWaiting,
     Malformed,
     BadLinkState,
+    NodeIdInUse,
 }
 
 // What events answer: accepted, for a send with the frame that left, or one of document 01's refusals.

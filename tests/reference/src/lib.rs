@@ -1,4 +1,4 @@
-//! Another implementation of document 01, with requests A.1 to A.5 of document 02, without proofs: the
+//! Another implementation of document 01, with requests A.1 to A.6 of document 02, without proofs: the
 //! peer for tests and for speed.
 
 pub mod alias;
@@ -26,5 +26,5 @@ pub use map::{AliasMap, Found};
 pub use node::{Node, State};
 pub use refusal::Refusal;
 pub use script::{run, run_program};
-pub use segment::{claim_holds, Segment, View};
+pub use segment::{claim_holds, node_ids_differ, Segment, View};
 pub use watch::Watch;

@@ -17,6 +17,7 @@ pub enum Refusal {
     MapFull = 12,
     Absent = 13,
     BadLinkState = 14,
+    NodeIdInUse = 15,
 }
 
 impl Refusal {

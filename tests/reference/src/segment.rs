@@ -74,10 +74,14 @@ impl Segment {
         Ok(None)
     }
 
-    /// 1, 3.
+    /// 1, 3, 15.
     pub fn power_on(&mut self, index: usize, id: u64) -> Result<(), Refusal> {
         let place = place(index)?;
-        self.nodes[place] = Node::power_on(id)?;
+        let node = Node::power_on(id)?;
+        if self.holders(id).any(|holder| holder != place) {
+            return Err(Refusal::NodeIdInUse);
+        }
+        self.nodes[place] = node;
         self.inboxes[place].clear();
         self.on |= bit(place);
         self.full &= !bit(place);
@@ -159,6 +163,12 @@ impl Segment {
     /// 1, 2, 14.
     pub fn link(&mut self, index: usize, state: u8) -> Result<(), Refusal> {
         self.nodes[place(index)?].link(state)
+    }
+
+    /// The places whose nodes are not Off and have this Node ID.
+    pub fn holders(&self, id: u64) -> impl Iterator<Item = usize> + '_ {
+        let holds = move |node: &Node| node.id() == id && !node.is_off();
+        (0..).zip(&self.nodes).filter(move |(_, node)| holds(node)).map(|(place, _)| place)
     }
 
     /// Lets an event happen at a node, and starts the age of what it owes anew if that changed.
@@ -251,6 +261,11 @@ fn place(index: usize) -> Result<usize, Refusal> {
 
 fn bit(place: usize) -> u32 {
     1 << place
+}
+
+/// No two nodes that are not Off have one Node ID (A.6).
+pub fn node_ids_differ(segment: &Segment) -> bool {
+    segment.nodes.iter().all(|node| segment.holders(node.id()).count() <= 1)
 }
 
 /// No two places use one alias, and no two have due frames with one header and different data.

@@ -1,8 +1,9 @@
-//! A list under watch: its greatest ages, and whether the claim held while A.3 demanded it.
+//! A list under watch: its greatest ages, whether the claim held while A.3 demanded it, and whether
+//! Node IDs differed, which A.6 demands of every list.
 
 use crate::command::Command;
 use crate::limits::Limits;
-use crate::segment::{claim_holds, Segment};
+use crate::segment::{claim_holds, node_ids_differ, Segment};
 
 #[derive(Clone, Copy, Debug, Default, PartialEq, Eq)]
 pub struct Watch {
@@ -10,6 +11,8 @@ pub struct Watch {
     pub greatest: Limits,
     /// The greatest ages at the first command after which the claim did not hold.
     pub broken: Option<Limits>,
+    /// Whether two nodes that are not Off ever had one Node ID.
+    pub equal_ids: bool,
 }
 
 impl Watch {
@@ -34,11 +37,13 @@ impl Watch {
         if self.broken.is_none() && !claim_holds(segment) {
             self.broken = Some(self.greatest);
         }
+        self.equal_ids |= !node_ids_differ(segment);
     }
 
-    /// Whether the claim held after every command up to which A.3 allows the ages.
+    /// Whether the claim held: Node IDs after every command, and the rest of it after every command
+    /// up to which A.3 allows the ages.
     pub fn claim_held(&self) -> bool {
-        !self.broken.is_some_and(Limits::are_allowed)
+        !self.equal_ids && !self.broken.is_some_and(Limits::are_allowed)
     }
 
     /// Whether the list is late, and has single aliases by A.3 all the same.

@@ -1,5 +1,5 @@
 //! The stored corpus reaches every cell that scripts can reach, and every mark; lists with link
-//! orders reach every cell, every link mark, and every frame that must be heard.
+//! orders reach every cell and every link mark.
 
 mod common;
 
@@ -7,7 +7,6 @@ use common::{in_state, ID};
 use reference::generate::changes::Change;
 use reference::generate::corpus;
 use reference::generate::coverage::{in_scripts, Coverage, Event, Heed, Row};
-use reference::generate::heard::Heard;
 use reference::generate::link_lists;
 use reference::generate::look_ups::{Followed, Gone, Outcome};
 use reference::generate::map_corpus::{self, MapRule};
@@ -31,6 +30,7 @@ fn corpus_of_scripts_is_complete() {
     println!("{} marks; a cell is reached {least} times at least", Mark::all().len());
     assert_eq!(cover.missing_cells(), []);
     assert_eq!(cover.missing_marks(), []);
+    assert_eq!(cover.missing_id_marks(), []);
     assert_eq!(cover.unlisted_cells(), []);
 }
 
@@ -42,7 +42,6 @@ fn lists_with_link_orders_are_complete() {
     println!("{} lists; {} cells reached", lists.len(), cover.cells.len());
     assert_eq!(cover.missing_in_lists(), []);
     assert_eq!(cover.missing_link_marks(), []);
-    assert_eq!(cover.missing_heard(), []);
     assert_eq!(cover.unlisted_cells(), []);
     assert_eq!(cover.impossible_cells(), []);
 }
@@ -159,7 +158,6 @@ fn cover_after(field: u16, alias: Alias, bit_28: bool) -> Coverage {
     cover
 }
 
-/// With 1 it is heard, and no other is; with 0 it is a cell of the table.
 #[test]
 fn a_frame_counts_by_its_own_bit_28_alone() {
     let own = Alias(0x263);
@@ -170,14 +168,11 @@ fn a_frame_counts_by_its_own_bit_28_alone() {
         (AMD, Alias(1), Heed::Amd),
     ];
     for (field, alias, heed) in frames {
-        let met = Heard { state: State::Permitted, heed };
-        let others: Vec<_> = Heard::all().into_iter().filter(|heard| *heard != met).collect();
-        assert_eq!(others.len(), 9);
-        let cleared = |(_, event): &(Row, Event)| *event == Event::DeliverBit28Clear(heed);
-        for (bit_28, missing) in [(false, Heard::all()), (true, others)] {
+        for bit_28 in [false, true] {
             let cover = cover_after(field, alias, bit_28);
-            assert_eq!(cover.missing_heard(), missing);
-            assert_eq!(cover.met.keys().any(cleared), !bit_28);
+            let by_bit = |(_, event): &&(Row, Event)| matches!(event, Event::DeliverBit28 { .. });
+            let met: Vec<_> = cover.met.keys().filter(by_bit).map(|&(_, event)| event).collect();
+            assert_eq!(met, [Event::DeliverBit28 { heed, bit_28 }]);
         }
     }
 }

@@ -43,7 +43,10 @@ fn breaks(mut draft: Draft, limits: Limits) -> bool {
     }
     assert_eq!(draft.state(1), State::Reserved);
     assert_eq!([draft.alias(0), draft.alias(1)], [Alias(0x263); 2]);
-    assert_eq!(Watch::of(draft.list), Watch { greatest: limits, broken: Some(limits) });
+    assert_eq!(
+        Watch::of(draft.list),
+        Watch { greatest: limits, broken: Some(limits), ..Watch::default() }
+    );
     true
 }
 
@@ -85,7 +88,7 @@ fn gives_way(mut draft: Draft, limits: Limits) {
     assert_eq!(refusal(draft.deliver(1)), 0);
     assert_eq!(draft.state(1), State::Testing);
     assert_ne!(draft.alias(1), Alias(0x263));
-    assert_eq!(Watch::of(draft.list), Watch { greatest: limits, broken: None });
+    assert_eq!(Watch::of(draft.list), Watch { greatest: limits, ..Watch::default() });
 }
 
 #[test]
@@ -117,7 +120,7 @@ fn inside_an_alias_is_taken_only_after_its_amr() {
         draft.send(0).ticks(1).send(1);
         assert_eq!((draft.state(0), draft.state(1)), (State::Resting, State::Reserved));
         assert_eq!(draft.alias(1), Alias(0x263));
-        assert_eq!(Watch::of(draft.list), Watch { greatest: limits, broken: None });
+        assert_eq!(Watch::of(draft.list), Watch { greatest: limits, ..Watch::default() });
     }
 }
 

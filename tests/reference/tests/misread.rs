@@ -214,7 +214,7 @@ fn send_is_4_before_5_and_the_own_inbox_does_not_count() {
     assert_eq!(refusal(draft.send(2)), 2);
     assert_eq!(refusal(draft.send(1)), 0);
     assert_eq!(draft.segment.inbox_len(1), 32);
-    draft.power_on(1, ID);
+    draft.power_on(1, ID + 1);
     assert_eq!(refusal(draft.send(0)), 0);
 }
 
@@ -348,16 +348,6 @@ fn an_alias_that_is_drawn_again_is_not_skipped() {
     draft.send(0).foreign_cid(0).deliver(0);
     assert_eq!(draft.alias(0), alias);
     assert_eq!(draft.segment.view(0).due.unwrap().header >> 24, 0x17);
-}
-
-#[test]
-fn equal_node_ids_are_accepted_and_both_report() {
-    let mut draft = Draft::permitted(&[ID, ID]);
-    assert_eq!((draft.state(0), draft.state(1)), (State::Permitted, State::Permitted));
-    assert_ne!(draft.alias(0), draft.alias(1));
-    assert!(draft.segment.node(0).waiting().report);
-    draft.send_and_drain(0);
-    assert_eq!(draft.state(0), State::Silent);
 }
 
 /// The wait starts when CID 4 leaves, not when it becomes due.

@@ -67,7 +67,7 @@ fn compare_tables(seed: u64, wanted: usize) -> String {
         run.compare(&list::random(&mut Prng::new(seed)), &format!("made by SEED={seed}"), number % TWINS_AMONG == 0);
     }
     println!("{}", cover::table(&run.cover));
-    println!("{}", cover::heard(&run.cover));
+    println!("{}", cover::id_marks(&run.cover));
     println!("{}", cover::link_marks(&run.cover));
     run.end(seed);
     run.corners.line().unwrap_or_else(|unmet| fail(&unmet))
@@ -130,9 +130,9 @@ impl Run {
         if !unmet.is_empty() {
             fail(&format!("these link marks were never met: {unmet:?}"));
         }
-        let unmet = self.cover.missing_heard();
+        let unmet = self.cover.missing_id_marks();
         if !unmet.is_empty() {
-            fail(&format!("these frames were never delivered with bit 28 as 1: {unmet:?}"));
+            fail(&format!("these marks of Node IDs at power-on were never met: {unmet:?}"));
         }
         let Run { lists, late, done, far, links, .. } = self;
         println!("operations: {done} commands agree, SEED={seed}: in {lists} lists, {late} of them late;");

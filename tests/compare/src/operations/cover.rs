@@ -1,10 +1,8 @@
-//! How often each state of a node met each event, drawn as a table; how often a frame to heed came with bit 28 as 1; and how often
-//! each link mark was met.
+//! How often each state of a node met each event, drawn as a table; and how often each link mark and each mark of Node IDs was met.
 
 use reference::generate::coverage::{reachable, Coverage, Event, Row};
-use reference::generate::heard::Heard;
+use reference::generate::id_marks::IdMark;
 use reference::generate::link_marks::{Cause, LinkMark};
-use reference::generate::marks::Mark;
 use std::collections::{BTreeMap, BTreeSet};
 use std::fmt::Write;
 
@@ -31,7 +29,7 @@ fn label(event: Event) -> String {
         Event::Answer(byte, refusal) => format!("{}, refused {refusal}", COMMANDS[usize::from(byte) - 1]),
         Event::EnquiryTaken { all } => format!("enquiry for {}", if all { "all" } else { "one" }),
         Event::Deliver(case) => format!("deliver {case:?}"),
-        Event::DeliverBit28Clear(heed) => format!("deliver {heed:?}, bit 28 as 0"),
+        Event::DeliverBit28 { heed, bit_28 } => format!("deliver {heed:?}, bit 28 as {}", u8::from(bit_28)),
         Event::DeliverAliasZero(heed) => format!("deliver {heed:?}, alias 0"),
         Event::BusFrame => "another node's frame comes".to_string(),
         Event::ForeignFrame => "a foreign frame comes".to_string(),
@@ -59,18 +57,32 @@ pub fn table(cover: &Coverage) -> String {
     text
 }
 
-/// A line for each frame to heed at each state in which it matters: how often it was delivered with bit 28 as 1.
-pub fn heard(cover: &Coverage) -> String {
-    let mut text = format!("{:<61}{:>11}", "frames to heed with bit 28 as 1", "met");
-    for frame in Heard::all() {
-        let label = format!("deliver {:?} in {:?}", frame.heed, frame.state);
-        let count = cover.marks.counts.get(&Mark::Heard(frame)).unwrap_or(&0);
-        write!(text, "\n{label:<61}{count:>11}").expect("a string takes it");
+/// A line for each mark with its label: how often it was met.
+fn marks<M: Ord>(title: &str, all: Vec<M>, counts: &BTreeMap<M, u64>, label: impl Fn(&M) -> String) -> String {
+    let mut text = format!("{title:<61}{:>11}", "met");
+    for mark in all {
+        let count = counts.get(&mark).unwrap_or(&0);
+        write!(text, "\n{:<61}{count:>11}", label(&mark)).expect("a string takes it");
     }
     text
 }
 
-fn mark_label(mark: LinkMark) -> String {
+fn id_label(mark: &IdMark) -> String {
+    match mark {
+        IdMark::HeldIn(state) => format!("power-on, refused 15: held by a {state:?} node"),
+        IdMark::HeldAt(place) => format!("power-on, refused 15: held at index {place}"),
+        IdMark::FramesStayed(state) => format!("power-on, refused 15, of a {state:?} node that kept its frames"),
+        IdMark::OwnAgain(state) => format!("power-on of a {state:?} node under its own Node ID"),
+        IdMark::GivenUp => "power-on under a Node ID that another index gave up".to_string(),
+    }
+}
+
+/// A line for each mark of Node IDs at power-on.
+pub fn id_marks(cover: &Coverage) -> String {
+    marks("Node IDs at power-on", IdMark::all(), &cover.ids.counts, id_label)
+}
+
+fn link_label(mark: &LinkMark) -> String {
     match mark {
         LinkMark::Answer(0) => "link order".to_string(),
         LinkMark::Answer(refusal) => format!("link order, refused {refusal}"),
@@ -87,12 +99,7 @@ fn mark_label(mark: LinkMark) -> String {
     }
 }
 
-/// A line for each link mark: how often it was met.
+/// A line for each link mark.
 pub fn link_marks(cover: &Coverage) -> String {
-    let count = |mark| cover.links.counts.get(&mark).unwrap_or(&0);
-    let mut text = format!("{:<61}{:>11}", "link orders and error reports", "met");
-    for mark in LinkMark::all() {
-        write!(text, "\n{:<61}{:>11}", mark_label(mark), count(mark)).expect("a string takes it");
-    }
-    text
+    marks("link orders and error reports", LinkMark::all(), &cover.links.counts, link_label)
 }

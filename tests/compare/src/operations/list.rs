@@ -23,9 +23,13 @@ pub fn first_ticks(rng: &mut Prng) -> Vec<Operation> {
 pub fn random(rng: &mut Prng) -> Vec<Operation> {
     let commands = commands(rng);
     let mut list = first_ticks(rng);
+    let mut id = 1;
     for command in commands {
+        if let Command::PowerOn { id: next, .. } = command {
+            id = next;
+        }
         if rng.percent(8) {
-            list.push(far(rng));
+            list.push(far(rng, id));
         }
         list.push(command.into());
     }
@@ -61,11 +65,12 @@ fn len(rng: &mut Prng) -> u8 {
     rng.pick(&[0, 6, 7, 8, 9, 255, any])
 }
 
-/// An operation whose operands go beyond what is accepted, or beyond what a command can carry; some are accepted nevertheless.
-fn far(rng: &mut Prng) -> Operation {
+/// An operation whose operands go beyond what is accepted, or beyond what a command can carry; some are accepted nevertheless. The
+/// Node ID is one that the list has.
+fn far(rng: &mut Prng, id: u64) -> Operation {
     let (index, len, bytes) = (index(rng), len(rng), rng.number());
     match rng.below(9) {
-        0 => Operation::PowerOn { index, id: rng.pick(&[0, 1 << 48, u64::MAX, bytes | 1 << 48, bytes | 1 << 63]) },
+        0 => Operation::PowerOn { index, id: rng.pick(&[0, 1 << 48, u64::MAX, bytes | 1 << 63, id, id | 1 << 48]) },
         1 => Operation::Send { index },
         2 => Operation::Fail { index },
         3 => Operation::Deliver { index },
@@ -108,6 +113,7 @@ mod tests {
         let met = |wanted: fn(&Operation) -> bool| assert!(list.iter().any(wanted));
         met(|operation| matches!(operation, Operation::Send { index: usize::MAX }));
         met(|operation| matches!(operation, Operation::PowerOn { index: 0..=23, id } if *id > u64::MAX / 2));
+        met(|operation| matches!(operation, Operation::PowerOn { index: usize::MAX, id: 1..=0xFFFF_FFFF_FFFF }));
         met(|operation| matches!(operation, Operation::Message { index: 0..=23, len: 255, .. }));
         met(|operation| matches!(operation, Operation::Enquiry { len: 6, bytes, .. } if bytes & 0xFFFF != 0));
         met(|operation| matches!(operation, Operation::Foreign { header: u32::MAX, .. }));

@@ -61,12 +61,14 @@ impl Pair {
         Ok(())
     }
 
-    /// Whether the claim holds on either side, or the ages are greater than A.3 allows.
+    /// Whether the claim holds on either side: of Node IDs always, of aliases unless the ages are greater than A.3 allows.
     fn claim(&self) -> Result<(), &'static str> {
         if !self.watch.claim_held() {
             return Err("in plain Rust");
         }
-        if self.watch.greatest.are_allowed() && !seen::claim_holds(&self.seen()) {
+        let seen = self.seen();
+        let aliases = !self.watch.greatest.are_allowed() || seen::claim_holds(&seen);
+        if !aliases || !seen::node_ids_differ(&seen) {
             return Err("on the proved table");
         }
         Ok(())
@@ -225,7 +227,7 @@ mod tests {
         for (inbox, waiting) in [(100, 0), (0, 100), (66, 66), (67, 66), (66, 67)] {
             let limits = Limits::new(inbox, waiting);
             for pair in [after(slow_reply(limits)), after(slow_amr(limits))] {
-                assert_eq!(pair.watch, Watch { greatest: limits, broken: None });
+                assert_eq!(pair.watch, Watch { greatest: limits, ..Watch::default() });
                 assert!(seen::claim_holds(&pair.seen()));
             }
         }
@@ -234,7 +236,7 @@ mod tests {
             [(slow_reply(reply), reply), (slow_amr(amr), amr), (slow_reply(both), both), (slow_amr(both), both)]
         {
             let pair = after(draft);
-            assert_eq!(pair.watch, Watch { greatest: limits, broken: Some(limits) });
+            assert_eq!(pair.watch, Watch { greatest: limits, broken: Some(limits), ..Watch::default() });
             assert!(!seen::claim_holds(&pair.seen()));
         }
     }
@@ -246,6 +248,19 @@ mod tests {
         pair.watch = Watch::default();
         assert_eq!(pair.claim(), Err("on the proved table"));
         pair.watch.see(&pair.segment);
+        assert_eq!(pair.claim(), Err("in plain Rust"));
+    }
+
+    /// What the proved table cannot come to, written into its words: one Node ID at two indexes.
+    #[test]
+    fn node_ids_are_checked_on_either_side_whatever_the_ages() {
+        let mut pair = after(slow_reply(Limits::new(68, 65)));
+        let (first, second) = (seen::shown(&pair.card, 0)[1], seen::shown(&pair.card, 1)[1]);
+        let words = pair.card.words_mut();
+        let place = words.iter().position(|&word| word == second).expect("the Node ID is one of the words");
+        words[place] = first;
+        assert_eq!(pair.claim(), Err("on the proved table"));
+        pair.watch.equal_ids = true;
         assert_eq!(pair.claim(), Err("in plain Rust"));
     }
 }

@@ -1,4 +1,4 @@
-//! What card_look shows of a node: the words for a node of the other implementation, and the claim by such words.
+//! What card_look shows of a node: the words for a node of the other implementation, and the claims by such words.
 
 use super::put_out;
 use crate::card::Card;
@@ -74,9 +74,27 @@ pub fn claim_holds(nodes: &[Seen]) -> bool {
     (0..nodes.len()).all(|p| (0..p).all(|q| !one_alias(&nodes[p], &nodes[q]) && !clash(&nodes[p], &nodes[q])))
 }
 
+/// No two nodes that are not Off are seen with one Node ID (A.6).
+pub fn node_ids_differ(nodes: &[Seen]) -> bool {
+    let id = |seen: &Seen| (!is_in(State::Off, seen)).then_some(seen[1]);
+    (0..nodes.len()).all(|p| (0..p).all(|q| id(&nodes[p]).is_none() || id(&nodes[p]) != id(&nodes[q])))
+}
+
 #[cfg(test)]
 mod tests {
     use super::*;
+
+    #[test]
+    fn one_node_id_at_two_is_found() {
+        let node = |state, id| [state_word(state), id, 0, 0, 0, 0, 0, 0, 0, 0, 0, 0];
+        for state in State::ON {
+            for other in State::ON {
+                let off = node(State::Off, 0);
+                assert!(!node_ids_differ(&[off, node(state, 5), off, node(other, 5)]));
+                assert!(node_ids_differ(&[off, node(state, 5), off, node(other, 6)]));
+            }
+        }
+    }
 
     /// A node in this state, seen with this alias and no due frame.
     fn in_state(state: State, alias: u64) -> Seen {

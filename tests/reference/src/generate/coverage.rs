@@ -8,7 +8,7 @@ use std::collections::{BTreeMap, BTreeSet};
 use crate::command::{Answer, Command};
 use crate::frame::Frame;
 use crate::generate::cases::Case;
-use crate::generate::heard::Heard;
+use crate::generate::id_marks::{IdMark, IdMarks};
 use crate::generate::link_marks::{LinkMark, LinkMarks};
 use crate::generate::marks::{Mark, Marks};
 use crate::header;
@@ -90,8 +90,11 @@ pub enum Event {
     },
     /// A frame of this case is delivered.
     Deliver(Case),
-    /// The same with bit 28 as 0: own alias and CID, own alias and other, AME or AMD to heed.
-    DeliverBit28Clear(Heed),
+    /// The same with this bit 28: own alias and CID, own alias and other, AME or AMD to heed.
+    DeliverBit28 {
+        heed: Heed,
+        bit_28: bool,
+    },
     /// An AME or AMD to heed that has alias 0.
     DeliverAliasZero(Heed),
     /// Another node's frame, or a foreign one, joins its inbox, or passes by if it is Off.
@@ -116,7 +119,7 @@ pub enum Heed {
 
 /// Each refusal that a command at an index can give; 0 is accepted. 1 is no node's.
 pub const ANSWERS: [(u8, &[u8]); 8] = [
-    (1, &[0, 3]),
+    (1, &[0, 3, 15]),
     (2, &[0, 2, 4, 5]),
     (3, &[0, 2, 4]),
     (4, &[2, 6]),
@@ -135,7 +138,9 @@ impl Event {
         events.extend([true, false].map(|all| Event::EnquiryTaken { all }));
         events.extend(Case::ALL.map(Event::Deliver));
         let heeds = [Heed::OwnCid, Heed::OwnOther, Heed::Ame, Heed::Amd];
-        events.extend(heeds.map(Event::DeliverBit28Clear));
+        for bit_28 in [false, true] {
+            events.extend(heeds.map(|heed| Event::DeliverBit28 { heed, bit_28 }));
+        }
         events.extend([Heed::Ame, Heed::Amd].map(Event::DeliverAliasZero));
         for was in Link::ALL {
             events.extend(Link::ALL.map(|is| Event::Link { was, is }));
@@ -151,9 +156,7 @@ impl Event {
         let mut events = vec![Event::Deliver(case)];
         let Some(heed) = Heed::of(case) else { return events };
         let header = header::split(frame.header);
-        if !header.bit_28 {
-            events.push(Event::DeliverBit28Clear(heed));
-        }
+        events.push(Event::DeliverBit28 { heed, bit_28: header.bit_28 });
         if header.alias.0 == 0 && matches!(heed, Heed::Ame | Heed::Amd) {
             events.push(Event::DeliverAliasZero(heed));
         }
@@ -218,6 +221,7 @@ pub struct Coverage {
     pub cells: BTreeMap<(Row, Event), u64>,
     pub marks: Marks,
     pub links: LinkMarks,
+    pub ids: IdMarks,
     /// How often each cell was met, shown or not.
     pub met: BTreeMap<(Row, Event), u64>,
     /// For each place, the cells that its next sends will show.
@@ -295,6 +299,7 @@ impl Coverage {
     pub fn end_script(&mut self, segment: &Segment) {
         self.marks.count_end(segment);
         self.links.count_end();
+        self.ids.count_end();
         self.pending = Default::default();
     }
 
@@ -305,6 +310,7 @@ impl Coverage {
         let answer = segment.carry_out(command);
         self.marks.count_after(segment, command, &answer);
         self.links.count(before.node.as_ref(), segment, command, &answer);
+        self.ids.count(before.node.as_ref(), segment, command, &answer);
         let refusal = answer.as_ref().map_or_else(|refusal| refusal.number(), |_| 0);
         self.show_earlier(&before, segment, command, refusal);
         for (place, event) in events(&before, command, refusal) {
@@ -390,10 +396,8 @@ impl Coverage {
         Mark::all().into_iter().filter(|mark| !self.marks.met(mark)).collect()
     }
 
-    /// The frames that must be heard with bit 28 as 1, and were not.
-    pub fn missing_heard(&self) -> Vec<Heard> {
-        let met = |heard: &Heard| self.marks.met(&Mark::Heard(*heard));
-        Heard::all().into_iter().filter(|heard| !met(heard)).collect()
+    pub fn missing_id_marks(&self) -> Vec<IdMark> {
+        IdMark::all().into_iter().filter(|mark| !self.ids.met(mark)).collect()
     }
 
     pub fn missing_link_marks(&self) -> Vec<LinkMark> {

@@ -88,6 +88,19 @@ impl Filler<'_> {
         self.push(Command::PowerOn { index, id });
     }
 
+    /// A power-on under the Node ID of another node, which is switched on for it if there is none.
+    fn power_on_in_use(&mut self, index: u8) {
+        let others = |draft: &Draft| -> Vec<u8> {
+            draft.on().into_iter().filter(|&other| other != index).collect()
+        };
+        if others(&self.draft).is_empty() {
+            self.power_on((index + 1) % Segment::PLACES as u8);
+        }
+        let other = self.rng.pick(&others(&self.draft));
+        let id = self.draft.segment.node(usize::from(other)).id();
+        self.push(Command::PowerOn { index, id });
+    }
+
     fn row(&self, index: u8) -> Row {
         Row::of(self.draft.segment.node(usize::from(index)))
     }
@@ -202,8 +215,8 @@ impl Filler<'_> {
                 let frame = self.frame(index, case);
                 self.deliver(index, frame);
             }
-            Event::DeliverBit28Clear(heed) => {
-                self.deliver_with(index, heed, |parts| Header { bit_28: false, ..parts });
+            Event::DeliverBit28 { heed, bit_28 } => {
+                self.deliver_with(index, heed, |parts| Header { bit_28, ..parts });
             }
             Event::DeliverAliasZero(heed) => {
                 self.deliver_with(index, heed, |parts| Header { alias: Alias(0), ..parts });
@@ -223,6 +236,7 @@ impl Filler<'_> {
         let nine = refusal == 9;
         match byte {
             1 if refusal == 3 => self.push(Command::PowerOn { index, id: 0 }),
+            1 if refusal == 15 => self.power_on_in_use(index),
             1 => self.power_on(index),
             2 => self.push(Command::Send { index }),
             3 => self.push(Command::FailedSend { index }),
@@ -496,7 +510,7 @@ fn changes(row: Row, event: Event) -> bool {
         Event::Answer(3, 0) => return testing,
         Event::Link { was, is } => return was != is,
         Event::Deliver(case) => Heed::of(case),
-        Event::DeliverBit28Clear(heed) | Event::DeliverAliasZero(heed) => Some(heed),
+        Event::DeliverBit28 { heed, .. } | Event::DeliverAliasZero(heed) => Some(heed),
         _ => None,
     };
     match (row, heed) {

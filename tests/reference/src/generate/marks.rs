@@ -5,7 +5,6 @@ use std::collections::BTreeMap;
 use crate::command::{Answer, Command, OPERANDS};
 use crate::frame::{Frame, ELEVEN_BIT, EXTENDED, REMOTE};
 use crate::generate::coverage::index_of;
-use crate::generate::heard::Heard;
 use crate::header::{self, Header, Kind, FIELD_MAX};
 use crate::inbox::Inbox;
 use crate::node::{Node, Owed, Phase, State};
@@ -58,7 +57,6 @@ pub enum Mark {
     OneTickEarly,
     AllOn,
     ForeignWithAllOff,
-    EqualNodeIds,
     EqualFirstAliases,
     EqualTestedAliases,
     /// A foreign frame's kind and length, and its field's edge with type and bit 28.
@@ -71,7 +69,6 @@ pub enum Mark {
         message: bool,
         bit_28: bool,
     },
-    Heard(Heard),
 }
 
 #[derive(Clone, Copy, Debug, PartialEq, Eq, PartialOrd, Ord)]
@@ -109,7 +106,7 @@ const SORTS: [Sort; 5] = [Sort::Extended, Sort::Remote, Sort::ElevenBit, Sort::R
 
 /// Every answer that each command can give.
 const ANSWERS: [(u8, &[u8]); 9] = [
-    (1, &[0, 1, 3]),
+    (1, &[0, 1, 3, 15]),
     (2, &[0, 1, 2, 4, 5]),
     (3, &[0, 1, 2, 4]),
     (4, &[0, 1, 2, 6]),
@@ -121,9 +118,11 @@ const ANSWERS: [(u8, &[u8]); 9] = [
 ];
 
 /// Every pair of refusals of a command whose conditions can hold at once. 7 and 8 cannot:
-/// a host frame waits only in Permitted. Nor can 2 and 4 to 8 be told from 2 alone.
-const ORDERS: [(u8, u8, u8); 12] = [
+/// a host frame waits only in Permitted. Nor can 3 and 15: no node has a Node ID that 3 refuses. Nor
+/// can 2 and 4 to 8 be told from 2 alone.
+const ORDERS: [(u8, u8, u8); 13] = [
     (1, 1, 3),
+    (1, 1, 15),
     (2, 2, 5),
     (2, 4, 5),
     (6, 9, 5),
@@ -169,7 +168,6 @@ impl Mark {
         marks.extend(State::ON.map(Mark::LateInbox));
         marks.extend(State::ON.map(Mark::FullInbox));
         marks.extend(Mark::foreign());
-        marks.extend(Heard::all().into_iter().map(Mark::Heard));
         marks
     }
 
@@ -189,7 +187,6 @@ impl Mark {
             Mark::OneTickEarly,
             Mark::AllOn,
             Mark::ForeignWithAllOff,
-            Mark::EqualNodeIds,
             Mark::EqualFirstAliases,
             Mark::EqualTestedAliases,
         ]
@@ -263,7 +260,6 @@ impl Marks {
         let old = segment.owed_age(place) > Some(0);
         match (command, owed) {
             (Command::Deliver { .. }, _) => self.before_delivery(segment, place),
-            (Command::PowerOn { .. }, _) => self.met_again &= !(1 << place),
             (Command::Send { .. }, Some(sort)) => {
                 self.met_again &= !(1 << place);
                 if segment.owed_age(place) == Some(Segment::LATENESS) && !segment.is_late() {
@@ -287,7 +283,6 @@ impl Marks {
         }
         let node = segment.node(place);
         let header = header::split(frame.header);
-        self.if_accepted.extend(Heard::of(frame, node).map(Mark::Heard));
         let cid = matches!(header.kind(), Kind::Cid(..));
         let own = header.alias == node.alias() && frame.kind == EXTENDED;
         let again = node.owed() == Owed::Reply && segment.owed_age(place) > Some(0);
@@ -356,14 +351,13 @@ impl Marks {
     }
 
     fn after_power_on(&mut self, segment: &Segment, index: usize) {
+        self.met_again &= !(1 << index);
         let node = segment.node(index);
         let mut others = 0;
         for place in (0..Segment::PLACES).filter(|&place| place != index) {
             let other = segment.node(place);
             others += usize::from(!other.is_off());
-            if other.id() == node.id() {
-                self.count(Mark::EqualNodeIds);
-            } else if other.tested_alias() == node.tested_alias() {
+            if other.tested_alias() == node.tested_alias() {
                 self.count(Mark::EqualFirstAliases);
             }
         }
@@ -427,7 +421,7 @@ fn full_inboxes(segment: &Segment, command: &Command) -> Vec<usize> {
     (0..Segment::PLACES).filter(full).collect()
 }
 
-/// The refusals of a command whose conditions hold now, in document 01's order.
+/// The refusals of a command whose conditions hold now, in the documents' order.
 fn conditions(segment: &Segment, command: &Command) -> Vec<u8> {
     let full = !full_inboxes(segment, command).is_empty();
     let place = index_of(command).filter(|&place| place < Segment::PLACES);
@@ -438,7 +432,10 @@ fn conditions(segment: &Segment, command: &Command) -> Vec<u8> {
     let eight = node.is_some_and(|node| node.waiting().host.is_some());
     let four = node.is_some_and(|node| !node.is_off() && node.due().is_none());
     let held: Vec<(u8, bool)> = match *command {
-        Command::PowerOn { id, .. } => vec![(1, one), (3, id == 0)],
+        Command::PowerOn { id, .. } => {
+            let fifteen = segment.holders(id).any(|holder| Some(holder) != place);
+            vec![(1, one), (3, id == 0), (15, fifteen)]
+        }
         Command::Send { .. } => vec![(1, one), (2, two), (4, four), (5, full)],
         Command::Foreign { frame } => vec![(9, !frame.well_formed()), (5, full)],
         Command::Message { field, len, .. } => {

@@ -7,7 +7,7 @@ pub mod corpus;
 pub mod coverage;
 pub mod draft;
 pub mod filler;
-pub mod heard;
+pub mod id_marks;
 pub mod link_lists;
 pub mod link_marks;
 pub mod look_ups;

@@ -29,6 +29,7 @@ pub fn all() -> Vec<Vec<u8>> {
     scripts.extend(field_edges(State::Permitted));
     scripts.extend(breakers());
     scripts.extend(powered_again());
+    scripts.extend(wiring_lists());
     scripts.extend([enquiry_lengths(), long_stream(), duplicates(), second_reply()]);
     scripts.extend([malformed_frames(), crossing_reservations(), all_off(), impatient()]);
     scripts
@@ -341,7 +342,8 @@ fn aimed_at_six(goal: State, headers: &[Header]) -> Vec<u8> {
     draft.bytes
 }
 
-/// All 24 on one breaker: different Node IDs, one first alias, one Node ID; in time and not.
+/// All 24 on one breaker: different Node IDs, one first alias, one Node ID in every line; in time and
+/// not.
 fn breakers() -> Vec<Vec<u8>> {
     let ids = |step: u64| -> Vec<u64> { (0..24).map(|k| ID + step * k).collect() };
     let mut scripts = vec![Draft::permitted(&ids(1)).bytes, Draft::permitted(&ids(ALIASES)).bytes];
@@ -418,10 +420,10 @@ fn long_stream() -> Vec<u8> {
     draft.bytes
 }
 
-/// Equal Node IDs: both are permitted, both report, both fall silent.
+/// A Node ID met in foreign AMDs: two nodes report theirs and fall silent.
 fn duplicates() -> Vec<u8> {
-    let mut draft = Draft::permitted(&[ID, ID, ID + 1]);
-    draft.message(0, 0x15B4, &[1]).foreign_ame().foreign_amd_of(0);
+    let mut draft = Draft::permitted(&[ID, ID + 1, ID + 2]);
+    draft.message(0, 0x15B4, &[1]).foreign_ame().foreign_amd_of(0).foreign_amd_of(1);
     draft.drain_all();
     for _ in 0..4 {
         for index in 0..3 {
@@ -432,6 +434,31 @@ fn duplicates() -> Vec<u8> {
     draft.drain_all();
     draft.send(0).power_on(0, ID).send(0);
     draft.bytes
+}
+
+/// Wiring lists with one Node ID in two lines: it is held in every state, and at either end.
+fn wiring_lists() -> Vec<Vec<u8>> {
+    let mut scripts: Vec<Vec<u8>> = State::ON.into_iter().flat_map(wiring_list).collect();
+    let mut ends = Draft::new();
+    ends.power_on(0, ID).power_on(23, ID + 23);
+    for index in [1, 22, 23, 0, 24] {
+        ends.power_on(index, ID).power_on(index, ID + 23).send(index);
+    }
+    scripts.push(ends.bytes);
+    scripts
+}
+
+/// Node 3 in this state. Other lines have its Node ID, and its own line then another's: it runs on.
+/// Or its line has its own Node ID again, and then a new one: its first one is free.
+fn wiring_list(state: State) -> [Vec<u8>; 2] {
+    let mut held = in_state(state);
+    held.power_on(0, ID).power_on(23, ID).send(0).power_on(5, ID + 5).power_on(5, ID);
+    held.idle_frame().foreign_cid(3).power_on(3, ID + 5).power_on(5, ID);
+    held.deliver(3).deliver(3).deliver(3).deliver(5).send(3).send(5);
+    let mut again = in_state(state);
+    again.idle_frame().power_on(3, ID).deliver(3).send(3).power_on(0, ID);
+    again.power_on(3, ID + 3).power_on(0, ID).power_on(3, ID).send(0).send(3);
+    [held.bytes, again.bytes]
 }
 
 /// A CID after the reply has left earns another reply; several before it earn one.

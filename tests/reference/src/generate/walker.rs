@@ -56,13 +56,13 @@ impl Temper {
     }
 }
 
-/// Node IDs that are near, equal, or share their first alias.
+/// Node IDs that are near, equal two by two, or share their first alias.
 fn node_ids(rng: &mut Prng, count: usize) -> Vec<u64> {
     let base = 1 + rng.number() % 0xFFFF_0000_0000;
     let sort = rng.below(5);
     (0..count as u64)
         .map(|k| match sort {
-            0 => base,
+            0 => base + k / 2,
             1 => base + k,
             2 => base + ALIASES * k,
             3 => base + ALIASES * (k / 2) + k % 2,
@@ -71,10 +71,11 @@ fn node_ids(rng: &mut Prng, count: usize) -> Vec<u64> {
         .collect()
 }
 
-/// A Node ID near this one, whose first alias is the given one.
-fn contender(id: u64, alias: Alias) -> u64 {
-    let low = id.clamp(ALIASES, MAX_48 - ALIASES);
-    low - low % ALIASES + u64::from(alias.0) - 1
+/// Node IDs whose first alias is the given one: near this one, and then ever lower ones.
+fn contenders(id: u64, alias: Alias) -> impl Iterator<Item = u64> {
+    let low = id.clamp(25 * ALIASES, MAX_48 - ALIASES);
+    let near = low - low % ALIASES + u64::from(alias.0) - 1;
+    (0..25).map(move |k| near - k * ALIASES)
 }
 
 /// How many ticks a node has waited to reserve the alias that it tests.
@@ -202,7 +203,12 @@ impl<'a> Walker<'a> {
         let used = (0..Segment::PLACES).filter_map(|p| self.draft.segment.node(p).used_alias());
         let used: Vec<Alias> = used.collect();
         if !used.is_empty() && self.rng.percent(60) {
-            id = contender(id, self.rng.pick(&used));
+            let free = |id: &u64| self.draft.segment.holders(*id).next().is_none();
+            let alias = self.rng.pick(&used);
+            id = contenders(id, alias).find(free).expect("24 nodes hold 24 Node IDs at most");
+        } else if self.rng.percent(5) {
+            let index = self.rng.below(Segment::PLACES);
+            id = self.draft.segment.node(index).id();
         }
         self.push(Command::PowerOn { index, id });
     }

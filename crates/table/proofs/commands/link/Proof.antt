@@ -1,5 +1,4 @@
 use mathlib.Core.Path.{refl, ap, _∙_}
-use mathlib.Core.Bool.{false}
 use Rattle.node.specs.Rules as N
 use Rattle.node.specs.Rules.{wait, onOrder}
 use Rattle.node.specs.declared.Node.{Node}
@@ -16,4 +15,4 @@ link-spec =
     (λ c κs. search needs)
     (λ c κs. search needs)
     (λ c κs. search needs)
-    (λ c. λ h. let q = c .before .before .before .before .before .before .args in order-done _ h (q .index) (N.link (q .state)) false refl (c .before .before .before .before .before .if1 .left) _ (c .before .before .link .ensures ∙ ap (λ (n : Node). onOrder wait n (N.link (q .state))) (c .before .before .before .load-node .ensures)) _ _ (c .settle .ensures (h .held))))
+    (λ c. λ h. let q = c .before .before .before .before .before .before .args in order-done _ h (q .index) (N.link (q .state)) refl refl (c .before .before .before .before .before .if1 .left) _ (c .before .before .link .ensures ∙ ap (λ (n : Node). onOrder wait n (N.link (q .state))) (c .before .before .before .load-node .ensures)) _ _ (c .settle .ensures (h .held))))
