@@ -39,20 +39,21 @@ extern "C" {
 
 /* The refusals of documents 01 and 02. 10 and 11 are given by the program `segment` alone. */
 enum {
-    CARD_REFUSED_BAD_INDEX = 1,      /* the index is above 23 */
-    CARD_REFUSED_OFF = 2,            /* the node is Off */
-    CARD_REFUSED_BAD_NODE_ID = 3,    /* the Node ID is 0 or has more than 48 bits */
-    CARD_REFUSED_NOTHING_DUE = 4,    /* the node has no due frame */
-    CARD_REFUSED_INBOX_FULL = 5,     /* an inbox that the frame would join is full */
-    CARD_REFUSED_INBOX_EMPTY = 6,    /* the inbox is empty, or has no frame at that place */
-    CARD_REFUSED_NOT_PERMITTED = 7,  /* the node is not Permitted */
-    CARD_REFUSED_HOST_WAITING = 8,   /* a host frame waits already */
-    CARD_REFUSED_MALFORMED = 9,      /* an operand is out of range */
-    CARD_REFUSED_UNKNOWN = 10,       /* the command is unknown */
-    CARD_REFUSED_CUT_SHORT = 11,     /* the script ends within the command */
-    CARD_REFUSED_FULL = 12,          /* the map is full: 64 other entries remain */
-    CARD_REFUSED_ABSENT = 13,        /* the map has no such entry */
-    CARD_REFUSED_BAD_LINK_STATE = 14 /* the link state is above 2 */
+    CARD_REFUSED_BAD_INDEX = 1,       /* the index is above 23 */
+    CARD_REFUSED_OFF = 2,             /* the node is Off */
+    CARD_REFUSED_BAD_NODE_ID = 3,     /* the Node ID is 0 or has more than 48 bits */
+    CARD_REFUSED_NOTHING_DUE = 4,     /* the node has no due frame */
+    CARD_REFUSED_INBOX_FULL = 5,      /* an inbox that the frame would join is full */
+    CARD_REFUSED_INBOX_EMPTY = 6,     /* the inbox is empty, or has no frame at that place */
+    CARD_REFUSED_NOT_PERMITTED = 7,   /* the node is not Permitted */
+    CARD_REFUSED_HOST_WAITING = 8,    /* a host frame waits already */
+    CARD_REFUSED_MALFORMED = 9,       /* an operand is out of range */
+    CARD_REFUSED_UNKNOWN = 10,        /* the command is unknown */
+    CARD_REFUSED_CUT_SHORT = 11,      /* the script ends within the command */
+    CARD_REFUSED_FULL = 12,           /* the map is full: 64 other entries remain */
+    CARD_REFUSED_ABSENT = 13,         /* the map has no such entry */
+    CARD_REFUSED_BAD_LINK_STATE = 14, /* the link state is above 2 */
+    CARD_REFUSED_NODE_ID_IN_USE = 15  /* the Node ID is in use at another index */
 };
 
 /* COMMANDS, as documents 01 and 02 have them. The refusals of each are tested in the order given. */
@@ -67,7 +68,9 @@ void card_new(uint64_t table[CARD_WORDS]);
  * card_look after each. */
 uint64_t card_is_late(const uint64_t table[CARD_WORDS]);
 
-/* The node starts anew with this Node ID, whatever it did before. 1, 3. */
+/* The node starts anew with this Node ID, whatever it did before. 1, 3, 15. The last says that a node at another index, in any
+ * state but Off, has this Node ID: card_look finds it. The node at this index then runs on as it was, with its inbox, or stays Off.
+ * The Node ID that it had itself does not count. */
 uint64_t card_power_on(uint64_t table[CARD_WORDS], size_t index, uint64_t id);
 
 /* The node's due frame leaves: put it on the bus. It joins the inboxes of the other nodes by itself. 1, 2, 4, 5. */

@@ -106,13 +106,25 @@ static void foreign(const char *what, uint8_t bit, uint8_t type, uint16_t field,
     deliver_all();
 }
 
-/* One breaker. Other equipment sends under an alias that exhibit 17 tests. */
+/* Whether an exhibit comes on with this Node ID of the wiring list. Where another has it, that one is named. */
+static unsigned comes_on(size_t exhibit, uint64_t id) {
+    uint64_t answer = card_power_on(table, exhibit, id);
+    for (size_t i = 0; answer == CARD_REFUSED_NODE_ID_IN_USE && i < CARD_NODES; i++)
+        if (seen(i, CARD_SEEN_ID) == id)
+            printf("exhibit %zu stays off, refused by %" PRIu64 ": exhibit %zu has Node ID %012" PRIX64 "\n", exhibit, answer,
+                   i, id);
+    return answer == 0;
+}
+
+/* One breaker. The wiring list has one Node ID in two lines, and the second is put right. Other equipment sends under an alias that
+ * exhibit 17 tests. */
 static void switch_on(void) {
     unsigned on = 0;
     card_new(table);
     map_new(map);
     for (size_t i = 0; i < CARD_NODES; i++)
-        on += card_power_on(table, i, node_id(i)) == 0;
+        on += comes_on(i, i == 8 ? node_id(6) : node_id(i));
+    on += comes_on(8, node_id(8));
     printf("%u exhibits on; index 24 is refused by %" PRIu64 "\n", on, card_power_on(table, CARD_NODES, 1));
     printf("            exhibits 0 to 23 (t Testing, r Reserved, P Permitted, L Leaving, z Resting, S Silent)\n");
     run(100);

@@ -146,12 +146,26 @@ static void malformed(void) {
     REFUSED(CARD_REFUSED_MALFORMED, card_foreign(T, 2, 0x800, 0, 0));
 }
 
+/* Looks. The Node ID that is seen is in use: at every other index a power-on with it is refused, be the node there on or Off. 1 and
+ * 3 are tested before. */
+static void look_in_use(size_t index) {
+    look(index);
+    const uint64_t id = SEEN[CARD_SEEN_ID];
+    for (size_t other = 0; other < CARD_NODES; other++)
+        if (other != index) {
+            REFUSED(CARD_REFUSED_NODE_ID_IN_USE, card_power_on(T, other, id));
+            REFUSED(CARD_REFUSED_BAD_NODE_ID, card_power_on(T, other, id + (UINT64_C(1) << 48)));
+        }
+    REFUSED(CARD_REFUSED_BAD_INDEX, card_power_on(T, CARD_NODES, id));
+    REFUSED(CARD_REFUSED_BAD_INDEX, card_power_on(T, FAR, id));
+}
+
 /* The last node of the table, from power-on to Permitted. */
 static void bring_up(size_t index) {
     ACCEPTED(card_power_on(T, index, ID));
     ACCEPTED(card_fail(T, index));
     ACCEPTED(card_power_on(T, index, ID));
-    look(index);
+    look_in_use(index);
     EXPECT(SEEN[CARD_SEEN_STATE], CARD_STATE_TESTING);
     EXPECT(SEEN[CARD_SEEN_ID], ID);
     EXPECT(SEEN[CARD_SEEN_ALIAS], 0x263);
@@ -171,9 +185,13 @@ static void bring_up(size_t index) {
     ACCEPTED(card_send(T, index, SENT));
     EXPECT(SENT[CARD_SENT_HEADER], 0x10700263);
     EXPECT(SENT[CARD_SENT_LEN], 0);
+    look_in_use(index);
+    EXPECT(SEEN[CARD_SEEN_STATE], CARD_STATE_RESERVED);
     ACCEPTED(card_send(T, index, SENT));
     EXPECT(SENT[CARD_SENT_LEN], 6);
     EXPECT(SENT[CARD_SENT_BYTES], ID << 16);
+    look_in_use(index);
+    EXPECT(SEEN[CARD_SEEN_STATE], CARD_STATE_PERMITTED);
 }
 
 static void orders(size_t index) {
@@ -229,7 +247,7 @@ static void duplicate(size_t index) {
     EXPECT(SENT[CARD_SENT_LEN], 8);
     EXPECT(SENT[CARD_SENT_BYTES], event);
     REFUSED(CARD_REFUSED_NOTHING_DUE, card_send(T, index, SENT));
-    look(index);
+    look_in_use(index);
     EXPECT(SEEN[CARD_SEEN_STATE], CARD_STATE_SILENT);
     EXPECT(SEEN[CARD_SEEN_ALIAS], 0);
 }
@@ -241,6 +259,8 @@ static void inboxes(size_t index) {
         ACCEPTED(card_foreign(T, 2, i, 1, UINT64_MAX));
     REFUSED(CARD_REFUSED_INBOX_FULL, card_foreign(T, 0, 0, 0, 0));
     REFUSED(CARD_REFUSED_INBOX_FULL, card_send(T, 0, SENT));
+    look_in_use(0);
+    look_in_use(index);
     for (uint64_t i = 0; i < CARD_INBOX; i++) {
         ACCEPTED(card_inbox(T, index, i, FRAME));
         check_same("card_inbox", &table);
@@ -263,7 +283,7 @@ static void inboxes(size_t index) {
 
 static void ends(size_t index) {
     ACCEPTED(card_release(T, index));
-    look(index);
+    look_in_use(index);
     EXPECT(SEEN[CARD_SEEN_STATE], CARD_STATE_LEAVING);
     EXPECT(SEEN[CARD_SEEN_ALIAS], 0x263);
     EXPECT(card_is_late(T), 0);
@@ -273,9 +293,21 @@ static void ends(size_t index) {
     while (card_deliver(T, 0) == 0)
         check_guards("card_deliver");
     ACCEPTED(card_send(T, index, SENT));
-    look(index);
+    look_in_use(index);
     EXPECT(SEEN[CARD_SEEN_STATE], CARD_STATE_RESTING);
     EXPECT(SEEN[CARD_SEEN_ALIAS], 0);
+}
+
+/* A Node ID, here the highest, is in use until a power-on at its index brings another. The own one does not count. */
+static void moves(size_t from, size_t to) {
+    const uint64_t highest = (UINT64_C(1) << 48) - 1;
+    ACCEPTED(card_power_on(T, from, highest));
+    ACCEPTED(card_power_on(T, from, highest));
+    look_in_use(from);
+    ACCEPTED(card_power_on(T, from, 1));
+    ACCEPTED(card_power_on(T, to, highest));
+    look_in_use(from);
+    look_in_use(to);
 }
 
 /* An alias with a Node ID, as an AMD defines them. */
@@ -362,6 +394,7 @@ int main(void) {
     bring_up(CARD_NODES - 1);
     inboxes(CARD_NODES - 1);
     ends(CARD_NODES - 1);
+    moves(CARD_NODES - 1, 0);
     maps();
     headers();
     printf("guards: %u calls accepted and %u refused: no word beside a buffer is written, none at all by a refusal\n", accepted,

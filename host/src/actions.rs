@@ -127,7 +127,7 @@ fn run(script: &Expanded, file: &Path, options: &Options) -> Result<String, Trou
     let last = play::last_line(&card);
     let mut text = if options.explain { explain.end(last) } else { lines + last + "\n" };
     if options.summary {
-        text += &summary.text(&card, paint);
+        text += &summary.text(&card, script, paint);
     }
     if let Some(picture) = &options.picture {
         let name = name_of(Path::new(file.file_name().unwrap_or_default()));

@@ -4,6 +4,7 @@ use crate::card::{Answer, Seen, State, PLACES};
 use crate::command::{Command, Read};
 use crate::frame::{Frame, Sort};
 use crate::hex::{dotted_id, joined};
+use crate::in_use::InUse;
 use crate::link::Link;
 use crate::paint::Paint;
 use crate::play::{self, Act};
@@ -140,7 +141,7 @@ fn meaning(moment: &Moment) -> String {
             )
         }
         (Act::Bytes(_, Read::Whole(command, _)), Answer::Refused(number)) => {
-            format!("{}: refused, {}", wanted(&command), words::refusal(number))
+            format!("{}: refused, {}", wanted(&command), why(number, moment))
         }
         (Act::Bytes(_, Read::Whole(command, _)), _) => done(&command, moment),
         (Act::Link(link), Answer::Refused(number)) => {
@@ -148,6 +149,11 @@ fn meaning(moment: &Moment) -> String {
         }
         (Act::Link(link), _) => format!("{}: {}", told(&link), linked(moment)),
     }
+}
+
+/// Why a command was refused; of a Node ID that is in use, at which node.
+fn why(number: u64, moment: &Moment) -> String {
+    InUse::of(moment).map_or_else(|| words::refusal(number).into(), |in_use| in_use.words())
 }
 
 /// What a command asks for.

@@ -11,6 +11,7 @@ pub mod explain;
 pub mod foreign;
 pub mod frame;
 pub mod hex;
+pub mod in_use;
 pub mod link;
 pub mod listing;
 pub mod names;

@@ -1,19 +1,20 @@
-//! The table at the end of a run: a row for each exhibit, collisions, link states that were told, whether the list was kept, how
-//! old frames became in it, and which came with bit 28 as 0.
+//! The table at the end of a run: a row for each exhibit, collisions, link states that were told, Node IDs that were in use,
+//! whether the list was kept, how old frames became in it, and which came with bit 28 as 0.
 
 use crate::ages::Ages;
 use crate::bit_28::Bit28;
 use crate::card::{Card, Seen, State, PLACES};
-use crate::command::Command;
+use crate::expand::Expanded;
 use crate::frame::{Frame, Sort};
 use crate::hex::dotted_id;
+use crate::in_use::AllInUse;
 use crate::paint::Paint;
 use crate::shared::Shared;
 use crate::told::Told;
 use crate::watch::{Arrival, Late, Moment};
 use crate::words;
 
-/// Of collisions, of link orders, and of aliases with bit 28 as 0, so many are named one by one.
+/// Of collisions, of link orders, of Node IDs in use, and of aliases with bit 28 as 0, so many are named one by one.
 const NAMED: usize = 10;
 
 /// When a node came to the alias that it has, and how often it started again.
@@ -60,6 +61,7 @@ pub struct Summary {
     collisions: Vec<Collision>,
     shared: Vec<Shared>,
     links: Vec<Told>,
+    in_use: AllInUse,
     commands: usize,
     refused: usize,
     ticks: usize,
@@ -78,6 +80,7 @@ impl Summary {
         self.collisions.extend(Collision::of(moment));
         self.shared.extend(Shared::of(moment));
         self.links.extend(Told::of(moment));
+        self.in_use.note(moment);
         self.late = self.late.or(moment.late);
         self.longest = moment.longest;
         self.bit_28.note(moment);
@@ -85,10 +88,7 @@ impl Summary {
             let (before, after) = (moment.before[index].state, moment.after[index].state);
             if moment.restarted(index) {
                 *row = Row { restarts: row.restarts + 1, ..Row::default() };
-            } else if moment.node() == Some(index)
-                && after == State::Testing
-                && matches!(moment.command(), Some(Command::On { .. }))
-            {
+            } else if moment.powered_on() == Some(index) {
                 *row = Row::default();
             }
             if before != after {
@@ -99,8 +99,8 @@ impl Summary {
         }
     }
 
-    /// The table and what is below it.
-    pub fn text(&self, card: &Card, paint: Paint) -> String {
+    /// The table and what is below it; the script is the one that was played.
+    pub fn text(&self, card: &Card, script: &Expanded, paint: Paint) -> String {
         let seen = card.look_at_all();
         let mut text = String::from("\n");
         text += &paint.bold(&cells(&HEAD.map(String::from)));
@@ -112,6 +112,7 @@ impl Summary {
         text += &self.collisions_text();
         text += &self.shared_text();
         text += &self.links_text();
+        text += &self.in_use_text(script);
         let (commands, refused) =
             (words::count(self.commands, "command", "commands"), self.refused);
         let (ticks, frames) = (words::count(self.ticks, "tick", "ticks"), self.frames);
@@ -174,6 +175,14 @@ impl Summary {
         }
         let head = format!("{} told", words::count(count, "link state was", "link states were"));
         named(&head, self.links.iter().map(Told::words))
+    }
+
+    /// Where no Node ID was in use at another index there is nothing to say.
+    fn in_use_text(&self, script: &Expanded) -> String {
+        if self.in_use.is_empty() {
+            return String::new();
+        }
+        named(&self.in_use.words(), self.in_use.lines(script))
     }
 
     fn verdict(&self, paint: Paint) -> String {

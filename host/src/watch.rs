@@ -131,6 +131,12 @@ impl Moment {
         index.map(usize::from).filter(|&index| index < PLACES)
     }
 
+    /// The node that it powered on.
+    pub fn powered_on(&self) -> Option<usize> {
+        let powers_on = matches!(self.command(), Some(Command::On { .. }));
+        self.node().filter(|_| powers_on && self.accepted())
+    }
+
     /// The frame that came onto the bus, and from whom.
     pub fn on_the_bus(&self) -> Option<(Frame, Sender)> {
         match (self.command()?, self.turn.answer) {

@@ -143,6 +143,7 @@ pub fn refusal(number: u64) -> &'static str {
         10 => "the command is unknown, and the run ends",
         11 => "the script ends within the command, and the run ends",
         14 => "the link state is above 2",
+        15 => "the Node ID is in use at another index",
         _ => "no reason is known for this number",
     }
 }

@@ -11,7 +11,7 @@ use Rattle.node.specs.Laws.{sends-28-as-1}
 use Rattle.state.specs.Answers.{answerAs}
 use Rattle.state.specs.declared.Answer as A
 use Rattle.segment_rules.specs.Rules.{places, limit, Command, start, run}
-use Rattle.segment_rules.specs.Bit28.{ListsBut28, InboxesBut28, ignores-28}
+use Rattle.segment_rules.specs.ListsBut28.{ListsBut28, InboxesBut28, ignores-28}
 use Rattle.table.specs.Words.{frameOf, nodeAt, inbox, lateOf}
 use Rattle.claim.specs.Single.{sound-run}
 use Rattle.claim.specs.Claim.{Carried, claim}

@@ -42,7 +42,7 @@ use Rattle.segment_rules.specs.Rules.{
   run,
 }
 use Rattle.segment_rules.specs.Others.{none-such}
-use Rattle.segment_rules.specs.Accepted.{one-passed}
+use Rattle.segment_rules.specs.Passed.{one-passed}
 
 -- Two nodes that are not Off have two Node IDs.
 abbrev pub Apart : (n m : Node) → Type 0

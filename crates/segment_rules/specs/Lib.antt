@@ -5,5 +5,5 @@ pub mod Limits
 pub mod Examples
 pub mod LimitLaws
 pub mod Others
-pub mod Accepted
-pub mod Bit28
+pub mod Passed
+pub mod ListsBut28

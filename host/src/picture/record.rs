@@ -134,9 +134,7 @@ impl Record {
 fn is_new_band(moment: &Moment, index: usize) -> bool {
     let (before, after) = (&moment.before[index], &moment.after[index]);
     let shown = |seen: &Seen| (seen.state, seen.alias);
-    let powered = moment.accepted()
-        && moment.node() == Some(index)
-        && matches!(moment.command(), Some(Command::On { .. }));
+    let powered = moment.powered_on() == Some(index);
     powered || shown(before) != shown(after) || moment.restarted(index)
 }
 

@@ -92,8 +92,7 @@ pub fn contest(seed: u64) -> String {
 /// All 24 nodes, up or still in test, of which some are left to wait: all or one of them send and are delivered, with long delays.
 pub fn crowd(seed: u64) -> String {
     let random = &mut Random::new(seed);
-    let mut text: String =
-        (0..24).map(|index| format!("on {index} 0501010102{:02X}\n", index / 2)).collect();
+    let mut text = pairs_on(24, 0x0501_0101_0200);
     text += random.pick(&["settle 210\n", "settle 30\n"]);
     for _ in 0..12 {
         let index = random.below(24);
@@ -113,14 +112,19 @@ pub fn crowd(seed: u64) -> String {
 pub fn neglect(seed: u64) -> String {
     let random = &mut Random::new(seed);
     let nodes = 2 * (1 + random.below(4));
-    let mut text: String =
-        (0..nodes).map(|index| format!("on {index} 0501010101{:02X}\n", index / 2)).collect();
+    let mut text = pairs_on(nodes, 0x0501_0101_0100);
     text += "send all\nsend all\nsend all\nsend all\ntick 201\n";
     for index in 0..nodes {
         text += &format!("send {index}\n");
         text += random.pick(&["", "tick\n", "tick 3\n", "fail 0\ntick\nfail 1\ntick 20\n"]);
     }
     text
+}
+
+/// The power-ons of so many nodes, from this Node ID on. Those of a pair are 4,095 apart, so that both nodes start with one alias.
+fn pairs_on(nodes: u64, first: u64) -> String {
+    let id = |index| first + index / 2 + index % 2 * 4_095;
+    (0..nodes).map(|index| format!("on {index} {:012X}\n", id(index))).collect()
 }
 
 fn script_of(random: &mut Random, line: impl Fn(&mut Random) -> String) -> String {
@@ -168,12 +172,15 @@ fn index(random: &mut Random) -> String {
     random.pick(&["0", "1", "2", "3", "0", "1", "23", "24", "255", "007"]).into()
 }
 
+/// Three with one first alias, and two with another.
 fn id(random: &mut Random) -> String {
     let ids = [
         "05.01.01.01.01.00",
         "0501.0101.10FF",
+        "05.01.01.01.20.FE",
         "050101010101",
         "05.01.01.01.01.01",
+        "050101011100",
         "00.00.00.00.00.00",
     ];
     random.pick(&ids).into()

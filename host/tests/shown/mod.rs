@@ -41,7 +41,7 @@ pub fn shown_of(script: &Expanded, paint: Paint) -> Shown {
     let last = play::last_line(&card);
     Shown {
         explained: explain.end(last),
-        summary: summary.text(&card, paint),
+        summary: summary.text(&card, script, paint),
         picture: draw(&record, "drawn", last),
         longest,
     }

@@ -17,6 +17,7 @@ use Rattle.segment_rules.specs.Rules.{
   places,
   inboxRoom,
   Place,
+  place,
   Segment,
   start,
   Act,
@@ -145,7 +146,7 @@ module _ (S T : Segment) (h : SegmentsBut28 S T) where
   full-but-28 = other-but-28 isFull (λ k z. leb inboxRoom (length-but-28 (h k .inbox) z))
 
   in-use-but-28 : (n : ℕ) (x : Act) → idInUse S n x ≡ idInUse T n x
-  in-use-but-28 n (orders (N.powerOn id)) = other-but-28 (hasId id) (λ k z. eqb (h k .node z .own .id) id && not (isOff (h k .node z .phase))) n places
+  in-use-but-28 n (orders (N.powerOn id)) = other-but-28 (hasId id) (λ k z. hasId id (place (h k .node z) [])) _ _
   in-use-but-28 n (orders N.fail) = refl
   in-use-but-28 n (orders (N.message field len bytes)) = refl
   in-use-but-28 n (orders (N.enquiry len bytes)) = refl
