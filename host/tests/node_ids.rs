@@ -132,7 +132,8 @@ fn of_many_ten_are_named() {
     let list: String = (0..24).map(|index| format!("on {index} 05.01.01.01.01.01\n")).collect();
     let summary = shown(&list).summary;
     assert_eq!(summary.matches(", which node 0 took in line 1\n").count(), 10);
-    let ten = "\n  line 11: node 10 with 05.01.01.01.01.01, which node 0 took in line 1\n  and 13 more\n";
+    let ten =
+        "\n  line 11: node 10 with 05.01.01.01.01.01, which node 0 took in line 1\n  and 13 more\n";
     assert!(
         summary.contains("\n23 power-ons were refused because ") && summary.contains(ten),
         "{summary}"

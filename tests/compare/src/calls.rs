@@ -1,11 +1,12 @@
-//! Single calls, the proved ones and the same in plain Rust: looking up in a full map, noting, reading and writing headers. A call of the
-//! library goes through a pointer, which the linker fills in; so does one in plain Rust, which is not inlined either.
+//! Single calls, the proved ones and the same in plain Rust: power-on beside 23 others, looking up in a full map, noting, reading and
+//! writing headers. A call of the library goes through a pointer, which the linker fills in; so does one in plain Rust, which is not
+//! inlined either.
 
-use crate::card::{read_header, write_header, ProvedMap};
+use crate::card::{read_header, write_header, Card, ProvedMap};
 use crate::operations::headers::{parts, write};
 use crate::operations::put_out;
 use reference::header;
-use reference::{Alias, AliasMap, Frame, Refusal};
+use reference::{Alias, AliasMap, Frame, Refusal, Segment};
 use std::hint::black_box;
 
 /// A call of each side on the operand with this number. Both give something to be looked at, so that no work is left out.
@@ -131,6 +132,34 @@ fn noting(name: &'static str, first: u64, answered: u64) -> Row {
     }
 }
 
+#[inline(never)]
+fn plain_power_on(segment: &mut Segment, index: usize, id: u64) -> u64 {
+    segment.power_on(index, id).map_or_else(|refusal| refusal.number().into(), |()| 0)
+}
+
+/// Power-ons with all 24 nodes on, `answered` so each time: of the first nodes in turn, each under the Node ID of this one.
+fn powering_on(name: &'static str, nodes: u64, under: fn(u64) -> u64, answered: u64) -> Row {
+    let (mut proved, mut plain) = (Card::new(), Segment::new());
+    let id = |number: u64| 0x0501_0101_0100 + number;
+    let plain_call: fn(&mut Segment, usize, u64) -> u64 = black_box(plain_power_on);
+    for number in 0..Segment::PLACES {
+        assert_eq!(proved.power_on(number, id(number as u64)), 0);
+        assert_eq!(plain_call(&mut plain, number, id(number as u64)), 0);
+    }
+    let operands = move |turn: u64| (black_box(turn % nodes) as usize, id(under(turn % nodes)));
+    Row {
+        name,
+        proved: Box::new(move |turn| {
+            let (index, id) = operands(turn);
+            assert_eq!(proved.power_on(index, id), answered);
+        }),
+        plain: Box::new(move |turn| {
+            let (index, id) = operands(turn);
+            assert_eq!(plain_call(&mut plain, index, id), answered);
+        }),
+    }
+}
+
 /// A header of each kind, some with bit 28 as 0.
 const HEADERS: [u32; 8] =
     [0x1705_0263, 0x0070_0263, 0x1070_1263, 0x0070_2263, 0x1070_3263, 0x0071_2263, 0x1070_4263, 0x095B_4263];
@@ -189,6 +218,13 @@ pub fn look_ups() -> [[Row; 3]; 2] {
 }
 
 /// All other calls.
-pub fn others() -> [Row; 4] {
-    [noting("full map, oldest renewed", 0, 0), noting("full map, refused by 12", 64, 12), reading(), writing()]
+pub fn others() -> [Row; 6] {
+    [
+        noting("full map, oldest renewed", 0, 0),
+        noting("full map, refused by 12", 64, 12),
+        reading(),
+        writing(),
+        powering_on("power-on, the own Node ID", 24, |number| number, 0),
+        powering_on("power-on, the last one's", 23, |_| 23, 15),
+    ]
 }
