@@ -43,6 +43,7 @@ use Rattle.segment_rules.specs.Rules.{
 }
 use Rattle.segment_rules.specs.Others.{none-such}
 use Rattle.segment_rules.specs.Passed.{one-passed}
+use Rattle.claim.specs.Single.{after-list}
 
 -- Two nodes that are not Off have two Node IDs.
 abbrev pub Apart : (n m : Node) → Type 0
@@ -130,19 +131,19 @@ module _ (S : Segment) where
       ))
       go (inr k) = inr (subst (SameId (S .at n .node)) (sym is) k)
 
-  told : (c : Command) (v : Value) → answer S c ≡ accepted v → (k : ℕ) → Renews c k ⊎ Keeps c k
-  told (one n x) v e k = go (eqb k n) refl
+  each-place : (c : Command) (v : Value) → answer S c ≡ accepted v → (k : ℕ) → Renews c k ⊎ Keeps c k
+  each-place (one n x) v e k = go (eqb k n) refl
     where
       go : (b : Bool) → eqb k n ≡ b → Renews (one n x) k ⊎ Keeps (one n x) k
       go true q = subst (λ (j : ℕ). Renews (one n x) j ⊎ Keeps (one n x) j) (sym (eqb-true k n q)) (own-id n x (one-passed S n x v e .2))
       go false q = inr (other-keeps n x k (eqb-false k n q))
-  told (send n) v e k = inr (send-id n k)
-  told tick v e k = inr (tick-id (S .at k .node) wait)
-  told (foreign f) v e k = inr (joins-id (trimmed f) k)
+  each-place (send n) v e k = inr (send-id n k)
+  each-place tick v e k = inr (tick-id (S .at k .node) wait)
+  each-place (foreign f) v e k = inr (joins-id (trimmed f) k)
 
   -- so two nodes have two Node IDs after a command where they had before
   carried-apart : (c : Command) (v : Value) → answer S c ≡ accepted v → AllApart S → (p q : ℕ) → p < places → q < places → p ≢ q → Apart (after c p) (after c q)
-  carried-apart c v e h p q hp hq ne = go (told c v e p) (told c v e q)
+  carried-apart c v e h p q hp hq ne = go (each-place c v e p) (each-place c v e q)
     where
       -- beside a node with a new Node ID
       beside : (k j : ℕ) → Renews c k → j < places → j ≢ k → isOff (after c j .phase) ≡ false → after c j .own .id ≢ after c k .own .id
@@ -165,12 +166,5 @@ module _ (S : Segment) where
 -- LISTS
 
 pub apart-run : (cs : List Command) → AllApart (run start cs)
-unfolding run offNode
-apart-run cs = on cs start all-off
-  where
-    all-off : AllApart start
-    all-off p q hp hq ne u v = absurd (true≢false u)
-
-    on : (cs : List Command) (S : Segment) → AllApart S → AllApart (run S cs)
-    on [] S h = h
-    on (c ∷ cs) S h = on cs (step S c) (apart-step S h c)
+unfolding offNode
+apart-run = after-list AllApart apart-step (λ p q hp hq ne u v. absurd (true≢false u))

@@ -500,6 +500,11 @@ ofNodeIds =
     says (alone 0 testing []) (powerOn 3 0x050101010101) (refused 15)
     ∷ says (alone 23 testing []) (powerOn 3 0x050101010101) (refused 15)
     ∷ says (alone 0 testing []) (powerOn 3 0x050101010102) (accepted done)
+    -- nor is one that differs in the highest bit alone
+    ∷ says (alone 0 testing []) (powerOn 3 0x850101010101) (accepted done)
+    -- a restart changes the generator and not the Node ID
+    ∷ says (alone 0 (restart testing) []) (powerOn 3 0x050101010101) (refused 15)
+    ∷ says (alone 0 (restart testing) []) (powerOn 3 0x220FA67D4EAA) (accepted done)
     -- compared is every other node that is not Off
     ∷ says (alone 0 (inState Reserved) []) (powerOn 3 0x050101010101) (refused 15)
     ∷ says (alone 0 permitted []) (powerOn 3 0x050101010101) (refused 15)
@@ -515,6 +520,8 @@ ofNodeIds =
     ∷ says (two 3 permitted [] 4 permitted []) (powerOn 4 0x050101010101) (refused 15)
     -- and is in use no more once another has taken its place
     ∷ lists (powerOn 3 0x050101010101 ∷ powerOn 3 0x050101010102 ∷ powerOn 4 0x050101010101 ∷ []) (accepted done ∷ accepted done ∷ accepted done ∷ []) 4 testing []
+    -- a duplicate met in a foreign frame is handled as before: no refusal, and A.2's report once it is delivered
+    ∷ says (alone 3 permitted []) (foreign (withId 0x10701111 0x050101010101)) (accepted done)
     -- tested after 1 and 3
     ∷ says (alone 3 testing []) (powerOn 24 0x050101010101) (refused 1)
     ∷ says (alone 3 (fresh 0 (record { 0 = 1 })) []) (powerOn 4 0) (refused 3)
@@ -545,7 +552,7 @@ examples-hold = (
             (
               (refl, (refl, (refl, (refl, (refl, (refl, tt)))))),
               (
-                (refl, (refl, (refl, (refl, (refl, (refl, (refl, (refl, (refl, (refl, (refl, (refl, (refl, ((refl, refl), (refl, (refl, (refl, ((refl, refl), ((refl, refl), tt))))))))))))))))))),
+                (refl, (refl, (refl, (refl, (refl, (refl, (refl, (refl, (refl, (refl, (refl, (refl, (refl, (refl, (refl, (refl, ((refl, refl), (refl, (refl, (refl, (refl, ((refl, refl), ((refl, refl), tt))))))))))))))))))))))),
                 tt,
               ),
             ),

@@ -95,7 +95,7 @@ pub enum Refusal {
     NodeIdInUse,
 }
 
-// What events answer: accepted, for a send with the frame that left, or one of document 01's refusals.
+// What events answer: accepted, for a send with the frame that left, or one of these refusals.
 pub enum Answer {
     Accepted,
     Sent(Frame),

@@ -1,4 +1,4 @@
-// Node IDs in use: whether one stands at another place than that of a power-on.
+// Node IDs in use (A.6): whether one stands at another place than that of a power-on.
 use crate::layout::Table;
 use crate::layout::WORDS;
 use crate::store;
