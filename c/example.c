@@ -111,8 +111,7 @@ static unsigned comes_on(size_t exhibit, uint64_t id) {
     uint64_t answer = card_power_on(table, exhibit, id);
     for (size_t i = 0; answer == CARD_REFUSED_NODE_ID_IN_USE && i < CARD_NODES; i++)
         if (seen(i, CARD_SEEN_ID) == id)
-            printf("exhibit %zu stays off, refused by %" PRIu64 ": exhibit %zu has Node ID %012" PRIX64 "\n", exhibit, answer,
-                   i, id);
+            printf("exhibit %zu is refused by %" PRIu64 ": exhibit %zu has Node ID %012" PRIX64 "\n", exhibit, answer, i, id);
     return answer == 0;
 }
 

@@ -137,7 +137,7 @@ fn plain_power_on(segment: &mut Segment, index: usize, id: u64) -> u64 {
     segment.power_on(index, id).map_or_else(|refusal| refusal.number().into(), |()| 0)
 }
 
-/// Power-ons with all 24 nodes on, `answered` so each time: of the first nodes in turn, each under the Node ID of this one.
+/// Power-ons with all 24 nodes on, `answered` so each time: at the first `nodes` indexes in turn, `under` the Node ID of this index.
 fn powering_on(name: &'static str, nodes: u64, under: fn(u64) -> u64, answered: u64) -> Row {
     let (mut proved, mut plain) = (Card::new(), Segment::new());
     let id = |number: u64| 0x0501_0101_0100 + number;
@@ -225,6 +225,6 @@ pub fn others() -> [Row; 6] {
         reading(),
         writing(),
         powering_on("power-on, the own Node ID", 24, |number| number, 0),
-        powering_on("power-on, the last one's", 23, |_| 23, 15),
+        powering_on("power-on, refused by 15", 23, |_| 23, 15),
     ]
 }

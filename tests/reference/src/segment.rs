@@ -279,3 +279,27 @@ pub fn claim_holds(segment: &Segment) -> bool {
     };
     (0..Segment::PLACES).all(|p| (0..p).all(|q| !one_alias(p, q) && !clash(p, q)))
 }
+
+#[cfg(test)]
+mod tests {
+    use super::*;
+    use crate::watch::Watch;
+
+    /// What no list comes to, written into the nodes: one Node ID at two places.
+    #[test]
+    fn one_node_id_at_two_places_is_found() {
+        for (first, second) in [(0, 23), (3, 4)] {
+            let mut segment = Segment::new();
+            segment.power_on(first, 5).unwrap();
+            segment.power_on(second, 6).unwrap();
+            assert!(node_ids_differ(&segment));
+            assert_eq!(segment.holders(5).collect::<Vec<_>>(), [first]);
+            assert_eq!(segment.holders(0).count(), 0, "an Off node holds none");
+            segment.nodes[second] = segment.nodes[first];
+            assert!(!node_ids_differ(&segment));
+            let mut watch = Watch::default();
+            watch.see(&segment);
+            assert!(watch.equal_ids && !watch.claim_held());
+        }
+    }
+}

@@ -2,7 +2,7 @@
 
 mod common;
 
-use common::seed;
+use common::{picture, seed};
 use reference::alias::ALIASES;
 use reference::generate::contests;
 use reference::generate::corpus;
@@ -11,7 +11,7 @@ use reference::generate::prng::Prng;
 use reference::generate::walker::{walk_list, Temper, Walker};
 use reference::node::Owed;
 use reference::{
-    claim_holds, run, whole_commands, Command, Limits, Node, Segment, State, View, Watch,
+    claim_holds, run, whole_commands, Command, Limits, Refusal, Segment, State, View, Watch,
 };
 
 #[test]
@@ -55,20 +55,9 @@ fn a_late_list_can_break_the_claim() {
     assert!(draft.segment.is_late() && !claim_holds(&draft.segment));
 }
 
-/// Everything that can be seen of a place, with ages.
-type Picture = (Node, View, Vec<u64>, Option<u64>);
-
-fn picture(segment: &Segment) -> (Vec<Picture>, bool) {
-    let one = |place| {
-        let ages = segment.inbox(place).map(|(_, age)| age).collect();
-        (*segment.node(place), segment.view(place), ages, segment.owed_age(place))
-    };
-    ((0..Segment::PLACES).map(one).collect(), segment.is_late())
-}
-
 #[test]
 fn refusals_change_nothing() {
-    let (mut refused, mut links_refused) = (0, 0);
+    let (mut refused, mut links, mut in_use) = (0, 0, 0);
     for number in 0..60 {
         let mut rng = Prng::new(seed() ^ number);
         let mut temper = Temper::random(&mut rng, 700);
@@ -77,14 +66,16 @@ fn refusals_change_nothing() {
         let mut segment = Segment::new();
         for command in walk_list(&mut rng, temper) {
             let before = picture(&segment);
-            if segment.carry_out(&command).is_err() {
+            if let Err(refusal) = segment.carry_out(&command) {
                 refused += 1;
-                links_refused += usize::from(matches!(command, Command::Link { .. }));
+                links += usize::from(matches!(command, Command::Link { .. }));
+                in_use += usize::from(refusal == Refusal::NodeIdInUse);
                 assert!(picture(&segment) == before, "{command:?}");
             }
         }
     }
-    assert!(refused > 1_000 && links_refused > 100, "{refused}, {links_refused} of them links");
+    println!("{refused} refused, {links} of them links, {in_use} by 15");
+    assert!(refused > 1_000 && links > 100 && in_use > 80, "{refused}, {links}, {in_use}");
 }
 
 /// Ages counted one by one, as document 01 says it, beside the segment's own way.

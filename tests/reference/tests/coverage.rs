@@ -7,10 +7,11 @@ use common::{in_state, ID};
 use reference::generate::changes::Change;
 use reference::generate::corpus;
 use reference::generate::coverage::{in_scripts, Coverage, Event, Heed, Row};
+use reference::generate::id_marks::IdMark;
 use reference::generate::link_lists;
 use reference::generate::look_ups::{Followed, Gone, Outcome};
 use reference::generate::map_corpus::{self, MapRule};
-use reference::generate::marks::Mark;
+use reference::generate::marks::{Mark, Sort};
 use reference::generate::prng::Prng;
 use reference::generate::walker::{walk, walk_list, Temper};
 use reference::header::{self, Header, AMD, AME, RID};
@@ -174,6 +175,38 @@ fn a_frame_counts_by_its_own_bit_28_alone() {
             let met: Vec<_> = cover.met.keys().filter(by_bit).map(|&(_, event)| event).collect();
             assert_eq!(met, [Event::DeliverBit28 { heed, bit_28 }]);
         }
+    }
+}
+
+#[test]
+fn a_frame_that_joined_later_does_not_show_that_frames_stayed() {
+    for joins in [false, true] {
+        let mut draft = in_state(State::Permitted);
+        draft.power_on(1, ID + 1).idle_frame().power_on(0, ID + 1);
+        if joins {
+            draft.idle_frame();
+        }
+        let mut cover = Coverage::new();
+        cover.count_list(&draft.deliver(0).list);
+        assert_eq!(cover.ids.met(&IdMark::FramesStayed(State::Permitted)), !joins);
+    }
+}
+
+/// A reply RID has waited 41 ticks, and a power-on was refused by 15 after so many of them; perhaps
+/// another frame has stood as long.
+#[test]
+fn an_age_ran_on_if_it_alone_made_the_list_late() {
+    let lists = [(1, false, true), (40, false, true), (0, false, false), (20, true, false)];
+    for (after, another, counts) in lists {
+        let mut draft = in_state(State::Permitted);
+        draft.foreign_cid(0).deliver(0).power_on(1, ID + 1);
+        if another {
+            draft.idle_frame().deliver(0);
+        }
+        draft.ticks(after).power_on(0, ID + 1).ticks(41 - after);
+        let mut cover = Coverage::new();
+        cover.count_list(&draft.list);
+        assert_eq!(cover.ids.met(&IdMark::LateBy(Sort::Reply)), counts, "{after} {another}");
     }
 }
 

@@ -2,12 +2,13 @@
 
 mod common;
 
-use common::{in_state, refusal, seed, ID};
+use common::{in_state, picture, refusal, seed, ID};
 use reference::alias::ALIASES;
 use reference::generate::draft::Draft;
 use reference::generate::prng::Prng;
 use reference::generate::walker::{Temper, Walker};
-use reference::{node_ids_differ, run, Command, Node, Refusal, Segment, State, View};
+use reference::inbox::Inbox;
+use reference::{run, Command, Refusal, Segment, State};
 
 /// Node 0 in this state, and node 1 with the next Node ID.
 fn beside(state: State) -> Draft {
@@ -42,10 +43,19 @@ fn every_other_index_is_compared() {
 }
 
 #[test]
+fn every_bit_is_compared() {
+    for bit in 0..48 {
+        let mut draft = Draft::new();
+        assert_eq!(refusal(draft.power_on(0, ID).power_on(1, ID ^ 1 << bit)), 0, "bit {bit}");
+        assert_eq!(refusal(draft.power_on(2, ID ^ 1 << bit)), 15, "bit {bit}");
+    }
+}
+
+#[test]
 fn the_own_earlier_node_id_does_not_count() {
     for state in State::ON {
         let mut draft = beside(state);
-        assert_eq!(refusal(draft.power_on(0, ID)), 0);
+        assert_eq!(refusal(draft.idle_frame().power_on(0, ID)), 0);
         assert_eq!((draft.state(0), draft.segment.inbox_len(0)), (State::Testing, 0));
     }
 }
@@ -75,22 +85,31 @@ fn tested_after_1_and_3() {
     assert_eq!(segment.power_on(1, ID), Err(Refusal::NodeIdInUse));
 }
 
-/// All that is seen of a place, and its ages.
-fn picture(segment: &Segment, place: usize) -> (Node, View, Vec<u64>, Option<u64>) {
-    let ages = segment.inbox(place).map(|(_, age)| age).collect();
-    (*segment.node(place), segment.view(place), ages, segment.owed_age(place))
-}
-
 #[test]
 fn a_refused_power_on_leaves_the_node_running() {
     for state in State::ON {
         let mut draft = beside(state);
-        draft.foreign_cid(0).idle_frame().deliver(0).ticks(7);
-        let before = picture(&draft.segment, 0);
-        assert_eq!(before.1.inbox.len(), 1);
+        draft.link(0, 2).foreign_cid(0).idle_frame().deliver(0).ticks(7);
+        let before = picture(&draft.segment);
+        assert_eq!(draft.segment.inbox_len(0), 1);
         assert_eq!(refusal(draft.power_on(0, ID + 1)), 15);
-        assert_eq!(picture(&draft.segment, 0), before, "{state:?}");
+        assert!(picture(&draft.segment) == before, "{state:?}");
         assert_eq!(refusal(draft.deliver(0)), 0, "its frame stands there as before");
+    }
+}
+
+/// Frames go on joining its inbox up to 32, and no Off node's.
+#[test]
+fn frames_join_after_a_refused_power_on_as_before() {
+    for state in State::ON {
+        let mut draft = beside(state);
+        draft.power_on(0, ID + 1).power_on(2, ID).idle_frame();
+        assert_eq!([0, 1, 2].map(|place| draft.segment.inbox_len(place)), [1, 1, 0], "{state:?}");
+        for _ in 1..Inbox::ROOM {
+            draft.deliver(1).idle_frame();
+        }
+        assert_eq!(refusal(draft.power_on(0, ID + 1).deliver(1).idle_frame()), 5);
+        assert_eq!(refusal(draft.deliver(0).power_on(0, ID + 1).idle_frame()), 0);
     }
 }
 
@@ -147,16 +166,4 @@ fn in_use(list: &[Command]) -> usize {
     let mut segment = Segment::new();
     let answers = list.iter().map(|command| segment.carry_out(command));
     answers.filter(|answer| *answer == Err(Refusal::NodeIdInUse)).count()
-}
-
-/// An Off node holds no Node ID, and each other holds its own.
-#[test]
-fn node_ids_are_compared_among_nodes_that_are_on() {
-    let mut segment = Segment::new();
-    assert!(node_ids_differ(&segment));
-    segment.power_on(3, ID).unwrap();
-    segment.power_on(4, ID + 1).unwrap();
-    assert!(node_ids_differ(&segment));
-    assert_eq!(segment.holders(ID).collect::<Vec<_>>(), [3]);
-    assert_eq!(segment.holders(0).count(), 0);
 }

@@ -26,7 +26,9 @@ fn main() {
         }
         let watch = watched(&script);
         if !watch.claim_held() {
-            report(seed, "the claim fails with ages that A.3 allows", &script, |less| !watched(less).claim_held());
+            report(seed, "the claim fails: of Node IDs, or of aliases with ages that A.3 allows", &script, |less| {
+                !watched(less).claim_held()
+            });
         }
         bytes += script.len();
         damaged += usize::from(harmed);

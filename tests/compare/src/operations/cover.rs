@@ -44,11 +44,11 @@ pub fn table(cover: &Coverage) -> String {
     for (row, event) in reachable() {
         *counts.entry((event, column(row))).or_default() += cover.met.get(&(row, event)).unwrap_or(&0);
     }
-    let mut text = format!("{:<28}", "event");
+    let mut text = format!("{:<30}", "event");
     STATES.iter().for_each(|state| write!(text, "{state:>11}").expect("a string takes it"));
     let events: BTreeSet<Event> = counts.keys().map(|(event, _)| *event).collect();
     for event in events {
-        write!(text, "\n{:<28}", label(event)).expect("a string takes it");
+        write!(text, "\n{:<30}", label(event)).expect("a string takes it");
         for state in 0..STATES.len() {
             let count = counts.get(&(event, state)).map_or("-".to_string(), u64::to_string);
             write!(text, "{count:>11}").expect("a string takes it");
@@ -71,7 +71,10 @@ fn id_label(mark: &IdMark) -> String {
     match mark {
         IdMark::HeldIn(state) => format!("power-on, refused 15: held by a {state:?} node"),
         IdMark::HeldAt(place) => format!("power-on, refused 15: held at index {place}"),
-        IdMark::FramesStayed(state) => format!("power-on, refused 15, of a {state:?} node that kept its frames"),
+        IdMark::FramesStayed(state) => format!("power-on, refused 15, of a {state:?} node that kept frames"),
+        IdMark::StayedFull => "power-on, refused 15, of a node whose inbox stayed full".to_string(),
+        IdMark::LateBy(sort) => format!("power-on, refused 15, then late by an age: {sort:?}"),
+        IdMark::OneBitApart(part) => format!("power-on one bit apart from another Node ID, in part {part}"),
         IdMark::OwnAgain(state) => format!("power-on of a {state:?} node under its own Node ID"),
         IdMark::GivenUp => "power-on under a Node ID that another index gave up".to_string(),
     }

@@ -65,8 +65,8 @@ fn len(rng: &mut Prng) -> u8 {
     rng.pick(&[0, 6, 7, 8, 9, 255, any])
 }
 
-/// An operation whose operands go beyond what is accepted, or beyond what a command can carry; some are accepted nevertheless. The
-/// Node ID is one that the list has.
+/// An operation whose operands go beyond what is accepted, or beyond what a command can carry; some are accepted nevertheless. `id`
+/// is the Node ID of the list's last power-on.
 fn far(rng: &mut Prng, id: u64) -> Operation {
     let (index, len, bytes) = (index(rng), len(rng), rng.number());
     match rng.below(9) {
@@ -114,6 +114,7 @@ mod tests {
         met(|operation| matches!(operation, Operation::Send { index: usize::MAX }));
         met(|operation| matches!(operation, Operation::PowerOn { index: 0..=23, id } if *id > u64::MAX / 2));
         met(|operation| matches!(operation, Operation::PowerOn { index: usize::MAX, id: 1..=0xFFFF_FFFF_FFFF }));
+        met(|operation| matches!(operation, Operation::PowerOn { index: 0..=23, id } if id >> 48 == 1 && *id > 1 << 48));
         met(|operation| matches!(operation, Operation::Message { index: 0..=23, len: 255, .. }));
         met(|operation| matches!(operation, Operation::Enquiry { len: 6, bytes, .. } if bytes & 0xFFFF != 0));
         met(|operation| matches!(operation, Operation::Foreign { header: u32::MAX, .. }));

@@ -102,7 +102,8 @@ pub enum Sort {
     Amr,
 }
 
-const SORTS: [Sort; 5] = [Sort::Extended, Sort::Remote, Sort::ElevenBit, Sort::Reply, Sort::Amr];
+pub(crate) const SORTS: [Sort; 5] =
+    [Sort::Extended, Sort::Remote, Sort::ElevenBit, Sort::Reply, Sort::Amr];
 
 /// Every answer that each command can give.
 const ANSWERS: [(u8, &[u8]); 9] = [
@@ -415,7 +416,7 @@ impl Marks {
 }
 
 /// The places whose full inbox stands against a send or a foreign frame.
-fn full_inboxes(segment: &Segment, command: &Command) -> Vec<usize> {
+pub(crate) fn full_inboxes(segment: &Segment, command: &Command) -> Vec<usize> {
     let sender = index_of(command);
     let full = |&place: &usize| segment.inbox_len(place) == Inbox::ROOM && Some(place) != sender;
     (0..Segment::PLACES).filter(full).collect()
@@ -463,7 +464,7 @@ pub fn why_malformed(frame: &Frame) -> Malformed {
     }
 }
 
-fn sort_of_kind(kind: u8) -> Sort {
+pub(crate) fn sort_of_kind(kind: u8) -> Sort {
     match kind {
         EXTENDED => Sort::Extended,
         REMOTE => Sort::Remote,
@@ -471,7 +472,7 @@ fn sort_of_kind(kind: u8) -> Sort {
     }
 }
 
-fn sort_owed(segment: &Segment, place: usize) -> Option<Sort> {
+pub(crate) fn sort_owed(segment: &Segment, place: usize) -> Option<Sort> {
     match segment.node(place).owed() {
         Owed::Nothing => None,
         Owed::Reply => Some(Sort::Reply),

@@ -1,4 +1,4 @@
-//! Scripts written on purpose: each one tells a story that document 01 or 002 suggests.
+//! Scripts written on purpose: each one tells a story that document 01, request A.6 or 002 suggests.
 
 use crate::alias::{self, Alias, ALIASES, MAX_48};
 use crate::command::{Command, OPERANDS};
@@ -246,7 +246,8 @@ fn amr_age(ticks: usize, released: bool) -> Vec<u8> {
     draft.bytes
 }
 
-/// A full inbox in every state: 5 for others' frames and foreign ones, not for its own.
+/// A full inbox in every state: 5 for others' frames and foreign ones, not for its own. A power-on
+/// that is refused by 15 leaves it full.
 fn full_inboxes() -> Vec<Vec<u8>> {
     State::ON.into_iter().map(full_inbox).collect()
 }
@@ -258,7 +259,7 @@ fn full_inbox(state: State) -> Vec<u8> {
         draft.idle_frame();
         draft.deliver(11);
     }
-    draft.send(11).send(11).send(11).idle_frame();
+    draft.send(11).send(11).power_on(3, ID + 11).send(11).idle_frame();
     let malformed = Frame { len: 9, ..Frame::EMPTY };
     draft.foreign(malformed).fail(11).send(3).send(3);
     draft.deliver(3).send(11).send(11);
@@ -445,7 +446,40 @@ fn wiring_lists() -> Vec<Vec<u8>> {
         ends.power_on(index, ID).power_on(index, ID + 23).send(index);
     }
     scripts.push(ends.bytes);
+    scripts.extend([40, 41].into_iter().flat_map(ages_run_on));
+    scripts.push(one_bit_apart());
     scripts
+}
+
+/// Frames, a reply RID and an AMR of so many ticks: after 20 of them a power-on is refused by 15.
+fn ages_run_on(ticks: usize) -> Vec<Vec<u8>> {
+    let waits: [fn(&mut Draft); 5] = [
+        |draft| _ = draft.foreign_ame(),
+        |draft| _ = draft.foreign(Frame { kind: REMOTE, ..Frame::EMPTY }),
+        |draft| _ = draft.idle_frame(),
+        |draft| _ = draft.foreign_cid(3).deliver(3),
+        |draft| _ = draft.release(3),
+    ];
+    waits
+        .map(|wait| {
+            let mut draft = in_state(State::Permitted);
+            wait(&mut draft);
+            draft.power_on(5, ID + 5).ticks(20).power_on(3, ID + 5).ticks(ticks - 20);
+            draft.deliver(3).send(3).deliver(5).ticks(1);
+            draft.bytes
+        })
+        .into()
+}
+
+/// Node IDs that differ in one bit, any of the 48, are two.
+fn one_bit_apart() -> Vec<u8> {
+    let mut draft = Draft::new();
+    draft.power_on(0, ID);
+    for bit in 0..48 {
+        draft.power_on(1, ID ^ 1 << bit);
+    }
+    draft.send(1).send(0);
+    draft.bytes
 }
 
 /// Node 3 in this state. Other lines have its Node ID, and its own line then another's: it runs on.

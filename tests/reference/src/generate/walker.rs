@@ -198,6 +198,8 @@ impl<'a> Walker<'a> {
         }
     }
 
+    /// Under the Node ID of its index; or a free one, whose first alias another node uses; or that of
+    /// some node, 0 where it is Off.
     fn power_on(&mut self, index: u8) {
         let mut id = self.temper.node_ids[usize::from(index) % self.temper.node_ids.len()];
         let used = (0..Segment::PLACES).filter_map(|p| self.draft.segment.node(p).used_alias());
@@ -207,8 +209,8 @@ impl<'a> Walker<'a> {
             let alias = self.rng.pick(&used);
             id = contenders(id, alias).find(free).expect("24 nodes hold 24 Node IDs at most");
         } else if self.rng.percent(5) {
-            let index = self.rng.below(Segment::PLACES);
-            id = self.draft.segment.node(index).id();
+            let other = self.rng.below(self.temper.nodes);
+            id = self.draft.segment.node(other).id();
         }
         self.push(Command::PowerOn { index, id });
     }

@@ -1,9 +1,9 @@
 //! The seed of random tests; a node brought to a state, and its report, for the tests of single
-//! points. Not every test needs all of it.
+//! points; all that is seen of a segment. Not every test needs all of it.
 #![allow(dead_code)]
 
 use reference::generate::draft::Draft;
-use reference::{Frame, Refusal, State};
+use reference::{Frame, Node, Refusal, Segment, State, View};
 
 /// Another seed can be given as SEED.
 pub fn seed() -> u64 {
@@ -38,6 +38,18 @@ pub fn in_state(state: State) -> Draft {
     assert_eq!(draft.state(0), state);
     assert!(!draft.segment.is_late());
     draft
+}
+
+/// Everything that can be seen of a place, with ages.
+type Picture = (Node, View, Vec<u64>, Option<u64>);
+
+/// Of every place; and whether the list is late.
+pub fn picture(segment: &Segment) -> (Vec<Picture>, bool) {
+    let one = |place| {
+        let ages = segment.inbox(place).map(|(_, age)| age).collect();
+        (*segment.node(place), segment.view(place), ages, segment.owed_age(place))
+    };
+    ((0..Segment::PLACES).map(one).collect(), segment.is_late())
 }
 
 /// The refusal of the last command, 0 where it was accepted.
