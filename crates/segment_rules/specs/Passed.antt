@@ -20,6 +20,6 @@ then-passed (refused first) b number v e = absurd (not-accepted first v e)
 pub one-passed : (S : Segment) (n : ℕ) (x : Act) (v : Value) → answer S (one n x) ≡ accepted v
     → (n < places) × (answerAt (S .at n) x ≡ accepted v) × (idInUse S n x ≡ false)
 one-passed S n x v e =
-    let q = inside n (thenRefuse (answerAt (S .at n) x) (idInUse S n x) 15) v e in
-    let r = then-passed (answerAt (S .at n) x) (idInUse S n x) 15 v (q .1) in
+    let q = inside n _ v e in
+    let r = then-passed (answerAt (S .at n) x) (idInUse S n x) _ v (q .1) in
     (q .0, r .0, r .1)
