@@ -1,13 +1,12 @@
 -- A.6 over lists, late ones too: no two nodes that are not Off have one Node ID. No age comes into it.
-use mathlib.Core.Path.{_≡_, refl, sym, ap, subst, _∙_}
+use mathlib.Core.Path.{_≡_, refl, sym, ap, _∙_}
 use mathlib.Core.Logic.{_≢_, _⊎_, inl, inr}
 use mathlib.Core.Bool.{Bool, true, false, true≢false, not, cond, _&&_}
-use mathlib.Core.List.{List, [], _∷_}
+use mathlib.Core.List.{List}
 use Prim.Native.Nat.{ℕ, _<_}
 use lib.Dec.{eqb}
-use borrow.Author.Tests.{lt-ltb, eqb-true, eqb-false, eq-eqb, ne-eqb}
-use Rattle.headers.specs.declared.frame.Frame.{Frame}
-use Rattle.node.specs.Rules.{Answer, accepted, refused, Value, done, left, wait, offNode, isOff, Order, powerOn, trimmed, onOrder, onLeave}
+use borrow.Author.Tests.{lt-ltb, eqb-true, eqb-false, eq-eqb}
+use Rattle.node.specs.Rules.{Answer, accepted, refused, Value, wait, offNode, isOff, Order, powerOn, onOrder}
 use Rattle.node.specs.NodeId.{SameId, itself, tick-id, leave-id, received-id, order-id}
 use Rattle.node.specs.declared.Node.{Node}
 use Rattle.segment_rules.specs.Rules.{
@@ -15,7 +14,6 @@ use Rattle.segment_rules.specs.Rules.{
   Place,
   Segment,
   start,
-  Act,
   orders,
   delivers,
   Command,
@@ -26,16 +24,10 @@ use Rattle.segment_rules.specs.Rules.{
   hasId,
   idInUse,
   answer,
-  Effect,
   stays,
-  gets,
   placeBy,
   empties,
-  orderBy,
-  delivered,
   effectAt,
-  joins,
-  sentBy,
   effect,
   stepBy,
   step,
@@ -43,6 +35,7 @@ use Rattle.segment_rules.specs.Rules.{
 }
 use Rattle.segment_rules.specs.Others.{none-such}
 use Rattle.segment_rules.specs.Passed.{one-passed}
+use Rattle.claim.specs.EachNode.{OrderAt, by-order, each-node}
 use Rattle.claim.specs.Single.{after-list}
 
 -- Two nodes that are not Off have two Node IDs.
@@ -74,72 +67,40 @@ module _ (S : Segment) where
   abbrev Renews : Command → ℕ → Type 0
   Renews c k = (j : ℕ) → j < places → j ≢ k → Keeps c j × (hasId (after c k .own .id) (S .at j) ≡ false)
 
-  same : (k : ℕ) → SameId (S .at k .node) (S .at k .node)
-  same k = itself (S .at k .node)
+  keeps : (c : Command) (k : ℕ) → OrderAt c k (λ x. SameId (S .at k .node) (onOrder wait (S .at k .node) x .node)) → Keeps c k
+  keeps c k o = each-node SameId itself received-id (λ n. leave-id n wait) (λ n. tick-id n wait) S c k o
 
-  joins-id : (f : Frame) (k : ℕ) → SameId (S .at k .node) (placeBy (joins f (S .at k)) (S .at k) .node)
-  joins-id f k = go (isOff (S .at k .node .phase))
+  -- an order at its own place: a power-on that was accepted brings a Node ID that nobody else has
+  ordered : (n : ℕ) (x : Order) → idInUse S n (orders x) ≡ false → (k : ℕ) → k ≡ n → let c = one n (orders x) in Renews c k ⊎ Keeps c k
+  ordered n x u k q = go (order-id (S .at k .node) wait x)
     where
-      go : (b : Bool) → SameId (S .at k .node) (placeBy (cond b stays (gets f)) (S .at k) .node)
-      go true = same k
-      go false = same k
+      c : Command
+      c = one n (orders x)
 
-  send-id : (n k : ℕ) → Keeps (send n) k
-  send-id n k = go (onLeave wait (S .at n .node) .answer) (eqb k n) refl
-    where
       m : Node
-      m = onLeave wait (S .at n .node) .node
+      m = onOrder wait (S .at k .node) x .node
 
-      go : (a : Answer Value) (own : Bool) → eqb k n ≡ own → SameId (S .at k .node) (placeBy (sentBy a m own (S .at k)) (S .at k) .node)
-      go (accepted (left f)) true e = subst (λ (j : ℕ). SameId (S .at j .node) m) (sym (eqb-true k n e)) (leave-id (S .at n .node) wait)
-      go (accepted (left f)) false e = joins-id f k
-      go (accepted done) own e = same k
-      go (refused number) own e = same k
+      is : after c k ≡ m
+      is = ap (λ (b : Bool). placeBy (cond b (effectAt (S .at k) (orders x)) stays) (S .at k) .node) (eq-eqb k n q) ∙ by-order (empties x) m (S .at k)
 
-  delivered-id : (fs : List Frame) (n : Node) → SameId n (delivered fs n)
-  delivered-id [] n = itself n
-  delivered-id (f ∷ fs) n = received-id n f
-
-  -- at another index than its own
-  other-keeps : (n : ℕ) (x : Act) (j : ℕ) → j ≢ n → Keeps (one n x) j
-  other-keeps n x j ne =
-      subst (λ (b : Bool). SameId (S .at j .node) (placeBy (cond b (effectAt (S .at j) x) stays) (S .at j) .node)) (sym (ne-eqb j n ne)) (same j)
-
-  -- at its own
-  own-effect : (n : ℕ) (x : Act) → effect S (one n x) n ≡ effectAt (S .at n) x
-  own-effect n x = ap (λ (b : Bool). cond b (effectAt (S .at n) x) stays) (eq-eqb n n refl)
-
-  by-order : (b : Bool) (m : Node) (p : Place) → placeBy (orderBy b m) p .node ≡ m
-  by-order true m p = refl
-  by-order false m p = refl
-
-  own-id : (n : ℕ) (x : Act) → idInUse S n x ≡ false → Renews (one n x) n ⊎ Keeps (one n x) n
-  own-id n delivers u = inr (subst (λ (e : Effect). SameId (S .at n .node) (placeBy e (S .at n) .node)) (sym (own-effect n delivers)) (delivered-id (S .at n .inbox) (S .at n .node)))
-  own-id n (orders x) u = go (order-id (S .at n .node) wait x)
-    where
-      m : Node
-      m = onOrder wait (S .at n .node) x .node
-
-      is : after (one n (orders x)) n ≡ m
-      is = ap (λ (e : Effect). placeBy e (S .at n) .node) (own-effect n (orders x)) ∙ by-order (empties x) m (S .at n)
-
-      go : ((id : ℕ) × (x ≡ powerOn id) × (m .own .id ≡ id)) ⊎ SameId (S .at n .node) m → Renews (one n (orders x)) n ⊎ Keeps (one n (orders x)) n
+      go : ((id : ℕ) × (x ≡ powerOn id) × (m .own .id ≡ id)) ⊎ SameId (S .at k .node) m → Renews c k ⊎ Keeps c k
       go (inl (id, ex, ei)) = inl (λ j hj ne. (
-        other-keeps n (orders x) j ne,
+        keeps c j (λ d. absurd (ne (d ∙ sym q))),
         ap (λ (i : ℕ). hasId i (S .at j)) (ap (λ (y : Node). y .own .id) is ∙ ei)
-            ∙ none-such (hasId id) n S places j (ap (λ (y : Order). idInUse S n (orders y)) (sym ex) ∙ u) hj ne,
+            ∙ none-such (hasId id) n S places j (ap (λ (y : Order). idInUse S n (orders y)) (sym ex) ∙ u) hj (λ d. ne (d ∙ sym q)),
       ))
-      go (inr k) = inr (subst (SameId (S .at n .node)) (sym is) k)
+      go (inr s) = inr (keeps c k (λ d. s))
 
   each-place : (c : Command) (v : Value) → answer S c ≡ accepted v → (k : ℕ) → Renews c k ⊎ Keeps c k
-  each-place (one n x) v e k = go (eqb k n) refl
+  each-place (one n (orders x)) v e k = go (eqb k n) refl
     where
-      go : (b : Bool) → eqb k n ≡ b → Renews (one n x) k ⊎ Keeps (one n x) k
-      go true q = subst (λ (j : ℕ). Renews (one n x) j ⊎ Keeps (one n x) j) (sym (eqb-true k n q)) (own-id n x (one-passed S n x v e .2))
-      go false q = inr (other-keeps n x k (eqb-false k n q))
-  each-place (send n) v e k = inr (send-id n k)
-  each-place tick v e k = inr (tick-id (S .at k .node) wait)
-  each-place (foreign f) v e k = inr (joins-id (trimmed f) k)
+      go : (b : Bool) → eqb k n ≡ b → let c = one n (orders x) in Renews c k ⊎ Keeps c k
+      go true q = ordered n x (one-passed S n (orders x) v e .2) k (eqb-true k n q)
+      go false q = inr (keeps (one n (orders x)) k (λ d. absurd (eqb-false k n q d)))
+  each-place (one n delivers) v e k = inr (keeps (one n delivers) k tt)
+  each-place (send n) v e k = inr (keeps (send n) k tt)
+  each-place tick v e k = inr (keeps tick k tt)
+  each-place (foreign f) v e k = inr (keeps (foreign f) k tt)
 
   -- so two nodes have two Node IDs after a command where they had before
   carried-apart : (c : Command) (v : Value) → answer S c ≡ accepted v → AllApart S → (p q : ℕ) → p < places → q < places → p ≢ q → Apart (after c p) (after c q)

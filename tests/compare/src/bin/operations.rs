@@ -14,7 +14,7 @@ use reference::generate::coverage::Coverage;
 use reference::generate::prng::Prng;
 use reference::generate::{corpus, link_lists};
 use reference::Limits;
-use std::fmt::Display;
+use std::fmt::{Debug, Display};
 use std::process::exit;
 
 /// How many frames are noted in maps, about so many in each.
@@ -122,18 +122,9 @@ impl Run {
     }
 
     fn end(&self, seed: u64) {
-        let unmet = self.cover.unmet_cells();
-        if !unmet.is_empty() {
-            fail(&format!("these states and events never met, though they can: {unmet:?}"));
-        }
-        let unmet = self.cover.missing_link_marks();
-        if !unmet.is_empty() {
-            fail(&format!("these link marks were never met: {unmet:?}"));
-        }
-        let unmet = self.cover.missing_id_marks();
-        if !unmet.is_empty() {
-            fail(&format!("these marks of Node IDs at power-on were never met: {unmet:?}"));
-        }
+        all_met("these states and events never met, though they can", &self.cover.unmet_cells());
+        all_met("these link marks were never met", &self.cover.missing_link_marks());
+        all_met("these marks of Node IDs at power-on were never met", &self.cover.missing_id_marks());
         let Run { lists, late, done, far, links, .. } = self;
         println!("operations: {done} commands agree, SEED={seed}: in {lists} lists, {late} of them late;");
         println!("operations: {far} of them have operands that no script can carry, and {links} are link orders;");
@@ -211,6 +202,12 @@ fn end_look_ups(ways: [(&str, &LookUps); 2]) {
         if !never_hit.is_empty() {
             fail(&format!("look-ups by {way} shall hit at each of the map's 64 places, and never did at {never_hit:?}"));
         }
+    }
+}
+
+fn all_met(what: &str, unmet: &[impl Debug]) {
+    if !unmet.is_empty() {
+        fail(&format!("{what}: {unmet:?}"));
     }
 }
 
