@@ -5,7 +5,8 @@
  * were. card_look, card_inbox and all with a const table or map change no word of it.
  *
  * What the caller owes, since nothing here can test it:
- *  - Every pointer is valid for as many words as its parameter says, aligned as uint64_t is, and no two of a call overlap.
+ *  - Every pointer is valid for as many words as its parameter says, aligned as uint64_t is, and no two of a call overlap. That of a
+ *    text is valid for as many bytes as the number after it says, wherever they begin; where that is 0 it may be NULL.
  *  - One caller at a time for one table or map: an interrupt or thread that calls for it meanwhile must be kept out.
  *  - A table came from card_new and a map from map_new, and no other code has written into them since.
  *  - card_tick is called once a millisecond; each frame that left is put on the bus, or card_fail says that it could not be;
@@ -39,21 +40,23 @@ extern "C" {
 
 /* The refusals of documents 01 and 02. 10 and 11 are given by the program `segment` alone. */
 enum {
-    CARD_REFUSED_BAD_INDEX = 1,       /* the index is above 23 */
-    CARD_REFUSED_OFF = 2,             /* the node is Off */
-    CARD_REFUSED_BAD_NODE_ID = 3,     /* the Node ID is 0 or has more than 48 bits */
-    CARD_REFUSED_NOTHING_DUE = 4,     /* the node has no due frame */
-    CARD_REFUSED_INBOX_FULL = 5,      /* an inbox that the frame would join is full */
-    CARD_REFUSED_INBOX_EMPTY = 6,     /* the inbox is empty, or has no frame at that place */
-    CARD_REFUSED_NOT_PERMITTED = 7,   /* the node is not Permitted */
-    CARD_REFUSED_HOST_WAITING = 8,    /* a host frame waits already */
-    CARD_REFUSED_MALFORMED = 9,       /* an operand is out of range */
-    CARD_REFUSED_UNKNOWN = 10,        /* the command is unknown */
-    CARD_REFUSED_CUT_SHORT = 11,      /* the script ends within the command */
-    CARD_REFUSED_FULL = 12,           /* the map is full: 64 other entries remain */
-    CARD_REFUSED_ABSENT = 13,         /* the map has no such entry */
-    CARD_REFUSED_BAD_LINK_STATE = 14, /* the link state is above 2 */
-    CARD_REFUSED_NODE_ID_IN_USE = 15  /* the Node ID is in use at another index */
+    CARD_REFUSED_BAD_INDEX = 1,        /* the index is above 23 */
+    CARD_REFUSED_OFF = 2,              /* the node is Off */
+    CARD_REFUSED_BAD_NODE_ID = 3,      /* the Node ID is 0 or has more than 48 bits */
+    CARD_REFUSED_NOTHING_DUE = 4,      /* the node has no due frame */
+    CARD_REFUSED_INBOX_FULL = 5,       /* an inbox that the frame would join is full */
+    CARD_REFUSED_INBOX_EMPTY = 6,      /* the inbox is empty, or has no frame at that place */
+    CARD_REFUSED_NOT_PERMITTED = 7,    /* the node is not Permitted */
+    CARD_REFUSED_HOST_WAITING = 8,     /* a host frame waits already */
+    CARD_REFUSED_MALFORMED = 9,        /* an operand is out of range */
+    CARD_REFUSED_UNKNOWN = 10,         /* the command is unknown */
+    CARD_REFUSED_CUT_SHORT = 11,       /* the script ends within the command */
+    CARD_REFUSED_FULL = 12,            /* the map is full: 64 other entries remain */
+    CARD_REFUSED_ABSENT = 13,          /* the map has no such entry */
+    CARD_REFUSED_BAD_LINK_STATE = 14,  /* the link state is above 2 */
+    CARD_REFUSED_NODE_ID_IN_USE = 15,  /* the Node ID is in use at another index */
+    CARD_REFUSED_NOT_GRIDCONNECT = 16, /* the text is no GridConnect frame, or its header has more than 29 bits */
+    CARD_REFUSED_SHORT_BUFFER = 17     /* the text is longer than the room for it */
 };
 
 /* COMMANDS, as documents 01 and 02 have them. The refusals of each are tested in the order given. */
@@ -197,6 +200,22 @@ uint64_t lcc_next_alias(uint64_t state, uint64_t next[2]);
 
 /* The places of `next`. */
 enum { LCC_NEXT_STATE, LCC_NEXT_ALIAS, LCC_NEXT_WORDS };
+
+/* GRIDCONNECT TEXT, as bus viewers exchange it. An extended frame that is not remote is `:X`, eight hex digits of header, `N`, two
+ * digits for each of 0 to 8 data bytes, `;`, and nothing else: no blank, no line end, no 0 behind it. */
+
+/* The longest text, that of eight data bytes: 12 + 2 * 8. A buffer of so many bytes has room for every frame. */
+#define GRID_TEXT_MAX 28
+
+/* Writes a frame as text, in upper case, and gives the text's length. Room for exactly the text is enough; what the buffer has
+ * beyond the text stays as it was. 9, 17. */
+uint64_t grid_write(uint8_t *text, size_t room, uint32_t header, uint8_t len, uint64_t bytes, uint64_t written[1]);
+
+/* Reads a text of this length; its hex digits may be in either case. The header keeps all 29 bits, and its alias may be 0. 16. */
+uint64_t grid_read(const uint8_t *text, size_t length, uint64_t frame[3]);
+
+/* The places of `frame`, which card_foreign and map_note take with kind 0. */
+enum { GRID_FRAME_HEADER, GRID_FRAME_LEN, GRID_FRAME_BYTES, GRID_FRAME_WORDS };
 
 #ifdef __cplusplus
 }

@@ -24,4 +24,6 @@ extern "C" {
     fn lcc_read_header(header: u32, parts: *mut u64) -> u64;
     fn lcc_first_alias(id: u64, alias: *mut u64) -> u64;
     fn lcc_next_alias(state: u64, next: *mut u64) -> u64;
+    fn grid_write(text: *mut u8, room: usize, header: u32, len: u8, bytes: u64, written: *mut u64) -> u64;
+    fn grid_read(text: *const u8, length: usize, frame: *mut u64) -> u64;
 }

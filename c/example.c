@@ -1,8 +1,9 @@
 /* 24 exhibits on one breaker, as firmware would run them on a bus with other equipment: when each is up, and under which alias.
- * Beside it a map of what is seen on the bus, as a viewer keeps one. */
+ * Beside it a map of what is seen on the bus, as a viewer keeps one, and frames as text, as a viewer exchanges them. */
 #include "card.h"
 #include <inttypes.h>
 #include <stdio.h>
+#include <string.h>
 
 static uint64_t table[CARD_WORDS];
 static uint64_t map[MAP_WORDS];
@@ -178,11 +179,46 @@ static void ask(uint16_t alias) {
         printf("alias %03X: refused by %" PRIu64 ", the map has no such entry\n", (unsigned)alias, answer);
 }
 
+/* A frame that left, as text for a bus viewer. The text has no 0 at its end: its length is in `written`. */
+static void show_text(size_t exhibit, const uint64_t sent[CARD_SENT_WORDS]) {
+    uint8_t text[GRID_TEXT_MAX];
+    uint64_t written[1];
+    uint64_t answer = grid_write(text, sizeof text, (uint32_t)sent[CARD_SENT_HEADER], (uint8_t)sent[CARD_SENT_LEN],
+                                 sent[CARD_SENT_BYTES], written);
+    if (answer == 0)
+        printf("%6u ms  exhibit %zu sends %.*s\n", now, exhibit, (int)written[0], (const char *)text);
+}
+
+/* A text of a bus viewer: its frame comes to all exhibits, and what they answer goes to the viewer. */
+static void take_text(const char *text) {
+    uint64_t frame[GRID_FRAME_WORDS], sent[CARD_SENT_WORDS];
+    uint64_t answer = grid_read((const uint8_t *)text, strlen(text), frame);
+    if (answer != 0) {
+        printf("%6u ms  the viewer's %s is refused by %" PRIu64 ": it is no GridConnect frame\n", now, text, answer);
+        return;
+    }
+    printf("%6u ms  the viewer sends %s\n", now, text);
+    card_foreign(table, 0, (uint32_t)frame[GRID_FRAME_HEADER], (uint8_t)frame[GRID_FRAME_LEN], frame[GRID_FRAME_BYTES]);
+    deliver_all();
+    for (size_t i = 0; i < CARD_NODES; i++)
+        if (card_send(table, i, sent) == 0) {
+            show_text(i, sent);
+            deliver_all();
+        }
+}
+
+/* Enquiries as text: who has the Node ID of exhibit 16? And, with `x` for `X`, one that is no GridConnect frame. */
+static void view(void) {
+    take_text(":X10702AAAN050101010110;");
+    take_text(":x10702AAAN050101010110;");
+}
+
 int main(void) {
     switch_on();
     show_table();
     work();
     show_table();
+    view();
     ask(0x265);
     ask(0x267);
     return 0;

@@ -1,11 +1,15 @@
 /* A test: every operation of card.h, accepted and refused, with guard words before and behind every buffer. */
 #include "card.h"
+#include <ctype.h>
 #include <inttypes.h>
 #include <stdio.h>
 #include <stdlib.h>
 #include <string.h>
 
 enum { GUARD = 16 };
+
+/* The rooms that are tried for a text, and the words of its buffer, in which it can begin at any byte of a word. */
+enum { ROOM_MAX = 40, TEXT_WORDS = ROOM_MAX / 8 + 1 };
 
 /* A buffer of so many words between its guards, and what it held before the last call. */
 struct guarded {
@@ -17,8 +21,9 @@ struct guarded {
 static struct guarded table = {.words = CARD_WORDS}, sent = {.words = CARD_SENT_WORDS}, seen = {.words = CARD_SEEN_WORDS},
                       frame = {.words = CARD_FRAME_WORDS}, map = {.words = MAP_WORDS},
                       found = {.words = MAP_FOUND_WORDS}, one = {.words = 1}, parts = {.words = LCC_PARTS_WORDS},
-                      next = {.words = LCC_NEXT_WORDS};
-static struct guarded *const BUFFERS[] = {&table, &sent, &seen, &frame, &map, &found, &one, &parts, &next};
+                      next = {.words = LCC_NEXT_WORDS}, text = {.words = TEXT_WORDS},
+                      grid = {.words = GRID_FRAME_WORDS};
+static struct guarded *const BUFFERS[] = {&table, &sent, &seen, &frame, &map, &found, &one, &parts, &next, &text, &grid};
 static unsigned accepted, refused;
 
 #define EACH(b) for (struct guarded *const *b = BUFFERS; b < BUFFERS + sizeof BUFFERS / sizeof *BUFFERS; b++)
@@ -95,6 +100,8 @@ static const size_t FAR = SIZE_MAX;
 #define ONE words(&one)
 #define PARTS words(&parts)
 #define NEXT words(&next)
+#define TEXT ((uint8_t *)words(&text))
+#define GRID words(&grid)
 
 /* Looking changes no word of the table. */
 static void look(size_t index) {
@@ -381,6 +388,145 @@ static void headers(void) {
     EXPECT(NEXT[LCC_NEXT_ALIAS], 0x4F8);
 }
 
+static const uint64_t DATA = UINT64_C(0x0123456789ABCDEF);
+
+/* The text that a frame has by request A.7, and its length. */
+static size_t text_of(char wanted[GRID_TEXT_MAX + 1], uint32_t header, uint8_t len, uint64_t bytes) {
+    uint64_t counted = len == 0 ? 0 : bytes >> (64 - 8 * len);
+    return (size_t)snprintf(wanted, GRID_TEXT_MAX + 1, ":X%08" PRIX32 "N%.*" PRIX64 ";", header, 2 * len, counted);
+}
+
+/* The text stands at this byte of its buffer, and no byte before or behind it has changed since `keep`. */
+static void check_text(size_t from, const char *wanted, size_t length) {
+    const uint8_t *all = (const uint8_t *)text.all, *before = (const uint8_t *)text.before;
+    const size_t start = GUARD * sizeof *text.all + from;
+    if (memcmp(all + start, wanted, length) != 0)
+        fail("grid_write", "is not the text of its frame", from);
+    for (size_t i = 0; i < sizeof text.all; i++)
+        if ((i < start || i >= start + length) && all[i] != before[i])
+            fail("grid_write", "a byte beside the text has changed", i);
+}
+
+/* A frame as text at this byte of the buffer. Where the room is less than the text's length, nothing is written. */
+static void write_text(size_t from, size_t room, uint32_t header, uint8_t len, uint64_t bytes) {
+    char wanted[GRID_TEXT_MAX + 1];
+    const size_t length = text_of(wanted, header, len, bytes);
+    fill(&text);
+    fill(&one);
+    if (room < length) {
+        REFUSED(CARD_REFUSED_SHORT_BUFFER, grid_write(TEXT + from, room, header, len, bytes, ONE));
+        return;
+    }
+    ACCEPTED(grid_write(TEXT + from, room, header, len, bytes, ONE));
+    EXPECT(ONE[0], length);
+    check_text(from, wanted, length);
+}
+
+/* Every length in every room, and at every byte of a word; room for exactly the text, and one less, among them. */
+static void texts_written(void) {
+    for (uint8_t len = 0; len <= 8; len++)
+        for (size_t room = 0; room <= ROOM_MAX; room++)
+            write_text((len + room) % 8, room, UINT32_C(0x195B4263), len, DATA);
+    for (size_t from = 0; from < 8; from++) {
+        write_text(from, GRID_TEXT_MAX, UINT32_C(0x1FFFFFFF), 8, UINT64_MAX);
+        write_text(from, GRID_TEXT_MAX - 1, UINT32_C(0x1FFFFFFF), 8, UINT64_MAX);
+    }
+    write_text(0, 12, 0, 0, UINT64_MAX);
+    write_text(0, 11, 0, 0, UINT64_MAX);
+    write_text(0, 12, UINT32_C(0x17050000), 0, 0);
+    REFUSED(CARD_REFUSED_SHORT_BUFFER, grid_write(NULL, 0, 0, 0, 0, ONE));
+    const size_t rooms[] = {0, GRID_TEXT_MAX - 1, GRID_TEXT_MAX, ROOM_MAX};
+    for (size_t i = 0; i < sizeof rooms / sizeof *rooms; i++) {
+        REFUSED(CARD_REFUSED_MALFORMED, grid_write(TEXT, rooms[i], UINT32_C(1) << 29, 0, 0, ONE));
+        REFUSED(CARD_REFUSED_MALFORMED, grid_write(TEXT, rooms[i], 0, 9, 0, ONE));
+        REFUSED(CARD_REFUSED_MALFORMED, grid_write(TEXT, rooms[i], UINT32_MAX, 255, UINT64_MAX, ONE));
+    }
+    REFUSED(CARD_REFUSED_MALFORMED, grid_write(NULL, 0, 0, 9, 0, ONE));
+}
+
+/* Reads so many bytes at this byte of the buffer: the frame is read, and its text is the one read, the letters raised. */
+static void read_text(size_t from, size_t length) {
+    ACCEPTED(grid_read(TEXT + from, length, GRID));
+    check_same("grid_read", &text);
+    char wanted[GRID_TEXT_MAX + 1];
+    const uint64_t *f = GRID;
+    EXPECT(text_of(wanted, (uint32_t)f[GRID_FRAME_HEADER], (uint8_t)f[GRID_FRAME_LEN], f[GRID_FRAME_BYTES]), length);
+    for (size_t i = 0; i < length; i++)
+        if (toupper(TEXT[from + i]) != wanted[i])
+            fail("grid_read", "is not the frame of its text", i);
+}
+
+/* Words that no frame has stay in `frame`. */
+static void refuse_text(const uint8_t *at, size_t length) {
+    fill(&grid);
+    REFUSED(CARD_REFUSED_NOT_GRIDCONNECT, grid_read(at, length, GRID));
+}
+
+/* Whether a text of this length can have the byte at this place. */
+static int fits(size_t place, size_t length, int byte) {
+    static const char FIRST[] = {':', 'X'};
+    if (place < sizeof FIRST)
+        return byte == FIRST[place];
+    if (place == 2)
+        return byte == '0' || byte == '1';
+    if (place == 10)
+        return byte == 'N';
+    return place == length - 1 ? byte == ';' : isxdigit(byte);
+}
+
+/* A text with every byte at every place: it is read where the byte fits there, else refused. */
+static void each_byte(uint8_t len) {
+    write_text(0, ROOM_MAX, UINT32_C(0x195B4263), len, DATA);
+    const size_t length = ONE[0];
+    for (size_t place = 0; place < length; place++) {
+        const uint8_t kept = TEXT[place];
+        for (int byte = 0; byte < 256; byte++) {
+            TEXT[place] = (uint8_t)byte;
+            if (fits(place, length, byte))
+                read_text(0, length);
+            else
+                refuse_text(TEXT, length);
+        }
+        TEXT[place] = kept;
+    }
+}
+
+/* Texts that are none, among them one with what ends a line and one with what ends a string. */
+static void texts_refused(void) {
+    static const char *const WRONG[] = {
+        ":", "X17050263N;", "::X17050263N;", " :X17050263N;", ":x17050263N;", ":S123N;", ":X1705026N;", ":X017050263N;",
+        ":X20000000N;", ":XFFFFFFFFN;", ":X17050263;", ":X17050263n;", ":X17050263R;", ":X17050263N", ":X17050263N0;",
+        ":X17050263N010;", ":X17050263N01", ":X17050263N 01;", ":X17050263N010203040506070809;", ":X17050263N;;",
+        ":X17050263N;\n", ":X17050263N;\r\n",
+    };
+    for (size_t i = 0; i < sizeof WRONG / sizeof *WRONG; i++) {
+        memcpy(TEXT, WRONG[i], strlen(WRONG[i]));
+        refuse_text(TEXT, strlen(WRONG[i]));
+    }
+    memcpy(TEXT, ":X17050263N;", sizeof ":X17050263N;");
+    refuse_text(TEXT, sizeof ":X17050263N;");
+    refuse_text(TEXT, 0);
+    refuse_text(NULL, 0);
+}
+
+/* Every text is read whole, at every byte of a word, and by no other length, whatever stands behind it. */
+static void texts_read(void) {
+    for (uint8_t len = 0; len <= 8; len++)
+        for (size_t from = 0; from < 8; from++) {
+            write_text(from, ROOM_MAX, UINT32_C(0x195B4263), len, DATA);
+            const size_t length = ONE[0];
+            for (size_t cut = 0; cut <= ROOM_MAX; cut++)
+                if (cut != length)
+                    refuse_text(TEXT + from, cut);
+            read_text(from, length);
+            EXPECT(GRID[GRID_FRAME_HEADER], 0x195B4263);
+            EXPECT(GRID[GRID_FRAME_LEN], len);
+            EXPECT(GRID[GRID_FRAME_BYTES], len == 0 ? 0 : DATA >> (64 - 8 * len) << (64 - 8 * len));
+        }
+    each_byte(0);
+    each_byte(8);
+}
+
 int main(void) {
     EACH(b) fill(*b);
     while_off();
@@ -397,6 +543,9 @@ int main(void) {
     moves(CARD_NODES - 1, 0);
     maps();
     headers();
+    texts_written();
+    texts_read();
+    texts_refused();
     printf("guards: %u calls accepted and %u refused: no word beside a buffer is written, none at all by a refusal\n", accepted,
            refused);
     return 0;

@@ -9,7 +9,7 @@ use crate::expand::{expand, Expanded};
 use crate::explain::Explain;
 use crate::paint::Paint;
 use crate::picture::{self, Record};
-use crate::play::{self, LIMIT};
+use crate::play::{self, Turn, LIMIT};
 use crate::progress::Progress;
 use crate::script::{self, Fault, Line};
 use crate::summary::Summary;
@@ -119,13 +119,17 @@ fn run(script: &Expanded, file: &Path, options: &Options) -> Result<String, Trou
         if options.explain {
             explain.note(moment);
         } else {
-            lines += &(play::line(&moment.turn) + "\n");
+            lines += &printed(&moment.turn, options);
         }
         summary.note(moment);
         record.note(moment);
     });
     let last = play::last_line(&card);
-    let mut text = if options.explain { explain.end(last) } else { lines + last + "\n" };
+    let mut text = match options {
+        Options { explain: true, .. } => explain.end(last),
+        Options { grid: true, .. } => lines,
+        _ => lines + last + "\n",
+    };
     if options.summary {
         text += &summary.text(&card, script, paint);
     }
@@ -135,6 +139,12 @@ fn run(script: &Expanded, file: &Path, options: &Options) -> Result<String, Trou
             .map_err(|why| Trouble::Output(format!("cannot write {}: {why}", picture.display())))?;
     }
     Ok(text)
+}
+
+/// The line of a turn; with --grid the frame that left in it, if one did.
+fn printed(turn: &Turn, options: &Options) -> String {
+    let line = if options.grid { play::text(turn) } else { Some(play::line(turn)) };
+    line.map_or(String::new(), |line| line + "\n")
 }
 
 /// The lines of a run, and nothing else.

@@ -1,14 +1,17 @@
 //! The proved library behind safe functions. This is the only file of the tool that is not safe Rust.
 
 use crate::command::Command;
-use crate::frame::Frame;
+use crate::frame::{Frame, EXTENDED};
 use crate::link::Link;
 
 /// The nodes of a card, and the words of its table, as c/card.h has them.
 pub const PLACES: usize = 24;
 pub const WORDS: usize = 1928;
 
-/// The words that `card_send`, `card_look`, `card_inbox` and `lcc_read_header` write.
+/// The bytes of the longest GridConnect text, as c/card.h has them.
+pub const TEXT_MAX: usize = 28;
+
+/// The words that `card_send` and `grid_read`, `card_look`, `card_inbox` and `lcc_read_header` write.
 type Sent = [u64; 3];
 type Look = [u64; 12];
 type Held = [u64; 4];
@@ -104,6 +107,26 @@ pub fn read_header(header: u32) -> Option<Parts> {
     let [_, field, _, kind, number, section, bit] = parts;
     let (field, number, section) = (field as u16, number as u8, section as u16);
     (code == 0).then_some(Parts { field, kind, number, section, bit_28: bit == 1 })
+}
+
+/// The frame of a GridConnect text, if it is one (request A.7).
+pub fn read_text(text: &str) -> Option<Frame> {
+    let mut frame: Sent = [0; 3];
+    // SAFETY: `text` is lent with its length, and `frame` has the three words that the operation writes.
+    let code = unsafe { grid_read(text.as_ptr(), text.len(), frame.as_mut_ptr()) };
+    (code == 0).then(|| Frame::of_words(EXTENDED, frame[0], frame[1], frame[2]))
+}
+
+/// An extended frame as GridConnect text, if it has no more than 29 bits and eight bytes; no other kind has such a text.
+pub fn write_text(frame: &Frame) -> Option<String> {
+    let (mut text, mut written) = ([0; TEXT_MAX], [0]);
+    let data = u64::from_be_bytes(frame.data);
+    // SAFETY: `text` is lent with its length, and `written` has the word that the operation writes.
+    let code = unsafe {
+        grid_write(text.as_mut_ptr(), TEXT_MAX, frame.header, frame.len, data, written.as_mut_ptr())
+    };
+    let text = || String::from_utf8_lossy(&text[..written[0] as usize]).into_owned();
+    (code == 0 && frame.kind == EXTENDED).then(text)
 }
 
 /// A card of 24 nodes.

@@ -1,8 +1,9 @@
-//! The bytes that a script's lines stand for, and the link orders beside them. `all` and `settle` go by what the card holds, so
-//! each command is carried out here.
+//! The bytes that a script's lines stand for, and the link orders beside them. `all`, `settle` and lines of a viewer's log go by
+//! what the card holds, so each command is carried out here.
 
 use crate::card::{Card, PLACES};
 use crate::command::{Command, Read};
+use crate::frame::Frame;
 use crate::link::{Link, Placed};
 use crate::progress::Progress;
 use crate::script::{Item, Line};
@@ -58,6 +59,7 @@ impl Expander {
             Item::DeliverAll => self.deliver_all(),
             Item::SendAll => self.send_all(),
             Item::Settle(count) => (0..*count).for_each(|_| self.settle()),
+            Item::Log(frames) => frames.iter().for_each(|frame| self.heard(*frame)),
             Item::Link(link) => self.link(*link),
             Item::Bytes(bytes) => {
                 self.bytes.extend(bytes);
@@ -100,6 +102,14 @@ impl Expander {
         self.deliver_all();
         self.send_all();
         self.command(&Command::Tick);
+    }
+
+    /// A frame of a viewer's log: it is delivered, and what is then due leaves, so that a log of any length fills no inbox. The text
+    /// has no times, and no tick passes.
+    fn heard(&mut self, frame: Frame) {
+        self.command(&Command::Foreign(frame));
+        self.deliver_all();
+        self.send_all();
     }
 
     /// Carries out the whole commands that have not been yet, up to one that ends the run.

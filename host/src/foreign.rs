@@ -1,10 +1,14 @@
-//! A foreign frame by name: by its sort, by its kind or by its header; then its data, and what ends it.
+//! A foreign frame by name: by its sort, by its kind or by its header; then its data, and what ends it. Or as GridConnect text.
 
 use crate::frame::{Frame, Sort, ELEVEN_BIT, EXTENDED, REMOTE};
+use crate::gridconnect;
 use crate::hex::pairs;
 use crate::operands::{Parsed, Words};
 
 pub fn foreign(words: &mut Words) -> Parsed<Frame> {
+    if words.peek().is_some_and(gridconnect::is_meant) {
+        return text(&words.rest());
+    }
     let (kind, header) = kind_and_header(words)?;
     let (count, data) = words.data()?;
     let Endings { length, bit } = endings(words)?;
@@ -13,6 +17,19 @@ pub fn foreign(words: &mut Words) -> Parsed<Frame> {
         None => Ok(frame),
         Some(bit) if frame.has_bit_28() => Ok(frame.with_bit_28(bit)),
         Some(_) => Err(no_bit_28(kind)),
+    }
+}
+
+/// One frame as GridConnect text, and nothing behind it.
+fn text(text: &str) -> Parsed<Frame> {
+    let end = text.find(';').map_or(text.len(), |at| at + 1);
+    let frame = gridconnect::frame(&text[..end])?;
+    match text[end..].trim() {
+        "" => Ok(frame),
+        more => Err(format!(
+            "\"{more}\" is too much: GridConnect text has a frame's data, its length and bit 28 in itself, \
+             and foreign takes one frame"
+        )),
     }
 }
 
@@ -53,7 +70,8 @@ fn no_bit_28(kind: u8) -> String {
 }
 
 fn kind_and_header(words: &mut Words) -> Parsed<(u8, u32)> {
-    const FRAME: &str = "a header of 8 hex digits, or one of CID, RID, AMD, AME, AMR, error, message, remote, short, kind";
+    const FRAME: &str = "a header of 8 hex digits, or one of CID, RID, AMD, AME, AMR, error, message, remote, short, kind, \
+                         or GridConnect text as :X17050263N;";
     let first = words.peek().ok_or(format!("the frame is missing; expected {FRAME}"))?;
     if pairs(first).is_some_and(|bytes| bytes.len() == 4) {
         return Ok((EXTENDED, words.header(8)?));

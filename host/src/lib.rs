@@ -10,6 +10,7 @@ pub mod expand;
 pub mod explain;
 pub mod foreign;
 pub mod frame;
+pub mod gridconnect;
 pub mod hex;
 pub mod in_use;
 pub mod link;

@@ -2,6 +2,7 @@
 
 use crate::command::Command;
 use crate::foreign::foreign;
+use crate::gridconnect;
 use crate::link::Link;
 use crate::operands::{Parsed, Words};
 use crate::script::{Fault, Item, Line, Source};
@@ -13,7 +14,7 @@ pub const FORMS: [(&str, &str); 12] = [
     ("fail", "fail INDEX"),
     ("deliver", "deliver INDEX, or deliver all"),
     ("tick", "tick, or tick COUNT"),
-    ("foreign", "foreign FRAME [length N] [bit28 BIT]"),
+    ("foreign", "foreign FRAME [length N] [bit28 BIT], or foreign :X17050263N;"),
     ("message", "message INDEX FIELD [DATA] [length N]"),
     ("enquiry", "enquiry INDEX [NODE-ID] [length N]"),
     ("release", "release INDEX"),
@@ -22,8 +23,9 @@ pub const FORMS: [(&str, &str); 12] = [
     ("bytes", "bytes HEX .."),
 ];
 
-pub fn is_command(word: &str) -> bool {
-    FORMS.iter().any(|(name, _)| word.eq_ignore_ascii_case(name))
+/// Whether a line that begins with this word is one by name.
+pub fn begins(word: &str) -> bool {
+    FORMS.iter().any(|(name, _)| word.eq_ignore_ascii_case(name)) || gridconnect::is_meant(word)
 }
 
 /// The lines of a script by name.
@@ -46,11 +48,18 @@ pub fn parse(sources: &[Source]) -> Result<Vec<Line>, Vec<Fault>> {
 /// What one line stands for, or what is wrong with it.
 pub fn parse_line(text: &str) -> Parsed<Item> {
     let mut words = Words::of(text);
+    if words.peek().is_some_and(gridconnect::is_meant) {
+        let frames = gridconnect::frames(text).map(Item::Log);
+        return frames.map_err(|why| format!("{why}; the form is: {}", gridconnect::FORM));
+    }
     let found = words.word().unwrap_or("");
     let name = found.to_ascii_lowercase();
     let Some((_, form)) = FORMS.iter().find(|(known, _)| *known == name) else {
         let known: Vec<&str> = FORMS.iter().map(|(name, _)| *name).collect();
-        return Err(format!("\"{found}\" is no command; expected one of {}", known.join(", ")));
+        let known = known.join(", ");
+        return Err(format!(
+            "\"{found}\" is no command; expected one of {known}, or GridConnect text as :X17050263N;"
+        ));
     };
     let item = item(&name, &mut words).and_then(|item| words.end().map(|()| item));
     item.map_err(|why| format!("{why}; the form is: {form}"))

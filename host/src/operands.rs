@@ -34,6 +34,12 @@ impl<'a> Words<'a> {
         word
     }
 
+    /// Takes all words that are left, with a blank between them.
+    pub fn rest(&mut self) -> String {
+        let from = std::mem::replace(&mut self.at, self.words.len());
+        self.words[from..].join(" ")
+    }
+
     /// Whether the next word is this one.
     fn is_at(&self, word: &str) -> bool {
         self.peek().is_some_and(|next| next.eq_ignore_ascii_case(word))

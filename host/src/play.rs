@@ -1,6 +1,6 @@
 //! A run over a script, as the program `segment` makes it over bytes: its turns, and the line of each.
 
-use crate::card::{Answer, Card};
+use crate::card::{write_text, Answer, Card};
 use crate::command::{Command, Read};
 use crate::hex::joined;
 use crate::link::{Link, Placed};
@@ -93,6 +93,12 @@ pub fn line(turn: &Turn) -> String {
             format!("{count} {name} ok {:08X} {}", frame.header, joined(frame.bytes(), ""))
         }
     }
+}
+
+/// The frame that left in a turn, if one did, as GridConnect text without a line feed.
+pub fn text(turn: &Turn) -> Option<String> {
+    let Answer::Sent(frame) = turn.answer else { return None };
+    Some(write_text(&frame).expect("what leaves is extended, of 29 bits and eight bytes at most"))
 }
 
 /// The last line of a run, without its line feed.

@@ -1,6 +1,7 @@
 //! A script's text: which of the two forms it has, and its lines, each with its number; or what is wrong with them.
 
 use crate::command::{Command, Read};
+use crate::frame::Frame;
 use crate::link::Link;
 use crate::{hex, names};
 
@@ -19,6 +20,8 @@ pub enum Item {
     DeliverAll,
     SendAll,
     Settle(usize),
+    /// Frames of a viewer's log.
+    Log(Vec<Frame>),
     Link(Link),
     Bytes(Vec<u8>),
 }
@@ -71,11 +74,11 @@ pub fn sources(text: &str) -> Vec<Source<'_>> {
         .collect()
 }
 
-/// Each line counts by its first word: a command's name for names; a word that begins with a digit, or has hex digits alone,
-/// for hex. The greater number decides, and where they are equal it is a script by name.
+/// Each line counts by its first word: a command's name, or GridConnect text, for names; a word that begins with a digit, or has hex
+/// digits alone, for hex. The greater number decides, and where they are equal it is a script by name.
 pub fn form_of(sources: &[Source]) -> Form {
     let first = |source: &Source| source.text.split_whitespace().next().unwrap_or("").to_string();
-    let by_name = sources.iter().filter(|s| names::is_command(&first(s))).count();
+    let by_name = sources.iter().filter(|s| names::begins(&first(s))).count();
     let in_hex = sources.iter().filter(|s| begins_hex(&first(s))).count();
     if in_hex > by_name {
         Form::Hex
@@ -113,7 +116,7 @@ pub fn in_bytes(lines: &[Line]) -> Result<(), Vec<Fault>> {
         return Ok(());
     };
     let why = "link has no byte in a script, so neither hex nor the program can have it; \
-               play it with --explain, --summary or --picture";
+               play it with --explain, --summary, --picture or --grid";
     Err(vec![Fault { line: link.number, why: why.into() }])
 }
 

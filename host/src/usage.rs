@@ -14,12 +14,14 @@ pub enum Wish {
     Bytes(PathBuf),
 }
 
-/// What is wished for besides the lines of a run.
+/// What is wished for besides the lines of a run, or in their place.
 #[derive(Clone, Debug, Default, PartialEq, Eq)]
 pub struct Options {
     pub explain: bool,
     pub summary: bool,
     pub picture: Option<PathBuf>,
+    /// The frames that leave, and no lines.
+    pub grid: bool,
 }
 
 /// What the first word can be.
@@ -49,7 +51,7 @@ pub fn parse(words: &[OsString]) -> Result<Wish, String> {
     let file = one_file(&files)?;
     if first != "run" && options != Options::default() {
         return Err(format!(
-            "{first} takes no option; --explain, --summary and --picture are for run"
+            "{first} takes no option; --explain, --summary, --picture and --grid are for run"
         ));
     }
     Ok(match first.as_ref() {
@@ -68,13 +70,18 @@ fn rest(words: &[OsString]) -> Result<Rest, String> {
             Some("--") => rest.files.extend(words.by_ref().map(PathBuf::from)),
             Some("--explain") => rest.options.explain = true,
             Some("--summary") => rest.options.summary = true,
+            Some("--grid") => rest.options.grid = true,
             Some("--picture") => picture(&mut rest.options, words.next())?,
             Some(option) if option.starts_with('-') && option != "-" => {
-                let known = "--explain, --summary, --picture OUT.svg or --help";
+                let known = "--explain, --summary, --picture OUT.svg, --grid or --help";
                 return Err(format!("there is no option {option}; expected {known}"));
             }
             _ => rest.files.push(word.into()),
         }
+    }
+    if rest.options.grid && (rest.options.explain || rest.options.summary) {
+        let why = "it prints frames alone, for a viewer to read";
+        return Err(format!("--grid goes with neither --explain nor --summary: {why}"));
     }
     Ok(rest)
 }

@@ -392,6 +392,9 @@ fn forms_are_told_apart() {
         ("\u{FEFF}05\r\n", Hex),
         ("send 0 # 05 05", Names),
         ("link 0 off\n05", Names),
+        (":X17050263N;", Names),
+        (":X17050263N;\n05", Names),
+        (":x\n:\n05", Names),
     ];
     for (text, form) in forms {
         assert_eq!(script::form_of(&script::sources(text)), form, "{text:?}");
@@ -402,8 +405,29 @@ fn forms_are_told_apart() {
 #[test]
 fn any_text_is_read_or_refused() {
     let words = [
-        "on", "send", "foreign", "AMD", "CID", "all", "length", "0", "7", "263", "05.01", "FF",
-        "é", "#", "\n", "bytes", "-1", ".", "link", "off", "bit28",
+        "on",
+        "send",
+        "foreign",
+        "AMD",
+        "CID",
+        "all",
+        "length",
+        "0",
+        "7",
+        "263",
+        "05.01",
+        "FF",
+        "é",
+        "#",
+        "\n",
+        "bytes",
+        "-1",
+        ".",
+        "link",
+        "off",
+        "bit28",
+        ":X17050263N;",
+        ":X",
     ];
     let mut random = Random::new(7);
     let (mut read, mut refused) = (0, 0);

@@ -52,7 +52,7 @@ fn same(file: &Path) {
     assert!(lines(file) == expected, "lcc run {} prints other lines than segment", file.display());
 }
 
-/// The tool's lines for a file, which are the same with each option and without.
+/// The tool's lines for a file, which are the same with each option and without; --grid prints the frames of those of sends.
 fn lines(file: &Path) -> String {
     let name = file.display();
     let expected = text(file, Options::default());
@@ -62,7 +62,16 @@ fn lines(file: &Path) -> String {
     assert!(drawn.starts_with(&expected), "lcc run {name} --summary --picture prints other lines");
     let explained = unfolded(&text(file, Options { explain: true, ..Options::default() }));
     assert!(explained == expected, "lcc run {name} --explain explains other lines");
+    let grid = text(file, Options { grid: true, ..Options::default() });
+    assert!(grid == frames(&expected), "lcc run {name} --grid prints other frames");
     expected
+}
+
+/// The frames that leave by the lines of a run, as GridConnect text.
+fn frames(lines: &str) -> String {
+    let sent = lines.lines().filter_map(|line| Some(line.split_once(" 02 ok ")?.1));
+    let parts = sent.map(|frame| frame.split_once(' ').unwrap_or((frame, "")));
+    parts.map(|(header, data)| format!(":X{header}N{data};\n")).collect()
 }
 
 /// The lines of an explanation without their words, and ticks in a row each on its own line.

@@ -53,7 +53,7 @@ const PERMITTED: &str = "on 0 05.01.01.01.01.01\nsettle 204\nsend 0\nsend 0\n";
 
 #[test]
 fn bad_words_are_refused() {
-    let wrong: [(&[&str], &str); 11] = [
+    let wrong: [(&[&str], &str); 15] = [
         (&[], "a word is missing"),
         (&["walk", "a.lcc"], "\"walk\" is nothing that lcc does"),
         (&["run"], "the file is missing"),
@@ -65,6 +65,13 @@ fn bad_words_are_refused() {
         (&["run", "--picture", "a.lcc"], "expected the picture's name, which ends in .svg"),
         (&["run", "-", "--picture", "a.svg", "--picture", "b.svg"], "--picture is there twice"),
         (&["hex", "-", "--explain"], "hex takes no option; --explain"),
+        (
+            &["names", "-", "--grid"],
+            "names takes no option; --explain, --summary, --picture and --grid",
+        ),
+        (&["run", "-", "--grid", "--explain"], "--grid goes with neither --explain nor --summary"),
+        (&["run", "-", "--summary", "--grid"], "it prints frames alone, for a viewer to read"),
+        (&["run", "-", "--gird"], "--picture OUT.svg, --grid or --help"),
     ];
     for (words, why) in wrong {
         let output = lcc(words, "tick");
@@ -333,7 +340,7 @@ fn link_orders_are_not_for_the_program() {
         let output = lcc(&[wish, "-"], script);
         assert_eq!((output.status.code(), out(&output).as_str()), (Some(2), ""), "{wish}");
         let why = "lcc: standard input: line 2: link has no byte in a script, so neither hex nor the program can have it; \
-                   play it with --explain, --summary or --picture\n";
+                   play it with --explain, --summary, --picture or --grid\n";
         assert_eq!(err(&output), why, "{wish}");
     }
     let output = lcc(&["names", "-"], script);
@@ -448,11 +455,13 @@ fn the_table_has_a_row_for_each_exhibit() {
     );
 }
 
-/// The table that is lent to the library has the words that its header asks for.
+/// The table and the text that are lent to the library have the words and bytes that its header asks for.
 #[test]
 fn the_words_are_those_of_the_header() {
     let header = fs::read_to_string(concat!(env!("CARGO_MANIFEST_DIR"), "/../c/card.h"))
         .expect("it is there");
-    let line = format!("#define CARD_WORDS {}", lcc::card::WORDS);
-    assert!(header.lines().any(|found| found == line), "c/card.h has no line {line}");
+    for (name, size) in [("CARD_WORDS", lcc::card::WORDS), ("GRID_TEXT_MAX", lcc::card::TEXT_MAX)] {
+        let line = format!("#define {name} {size}");
+        assert!(header.lines().any(|found| found == line), "c/card.h has no line {line}");
+    }
 }

@@ -1,5 +1,6 @@
 // Headers and aliases for C, over the functions of layer 1.
 use crate::code;
+use crate::malformed;
 use headers::alias::Alias;
 use headers::alias::First;
 use headers::alias::Next;
@@ -16,12 +17,6 @@ ghost use Rattle.headers.specs.Rules.{read, firstAlias, nextAlias};
 ghost use Rattle.headers.specs.Answers.{typeOf, kindAs, partsAs};
 ghost use Rattle.card_api.specs.Out.{Out, one};
 ghost use Rattle.card_api.specs.Lcc.{kindCode, kindNumber, kindSection, partsWords, nextWords, writeAny};
-
-fn malformed() -> u64
-    ensures { λ r. ⌜ r ≡ 9 ⌝ }
-{
-    code(Answer::Refused(Refusal::Malformed))
-}
 
 fn bad_node_id() -> u64
     ensures { λ r. ⌜ r ≡ 3 ⌝ }

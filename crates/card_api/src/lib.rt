@@ -1,11 +1,13 @@
 // For C: the table's commands over a plain pointer to its words, answers as numbers. Beside them looking (look.rt), the map of
-// foreign aliases (map.rt), headers and aliases (lcc.rt).
+// foreign aliases (map.rt), headers and aliases (lcc.rt), frames as text (grid.rt).
+pub mod grid;
 pub mod lcc;
 pub mod look;
 pub mod map;
 
 use headers::frame::Frame;
 use state::Answer;
+use state::Refusal;
 use table::layout::WORDS;
 ghost use mathlib.Core.Path.{_≡_};
 ghost use Rattle.segment_rules.specs.Rules.{powerOn, send, fail, deliver, tick, foreign, message, enquiry, release, link};
@@ -23,6 +25,12 @@ fn code(a: Answer) -> u64
         Answer::Sent(_) => 0,
         Answer::Refused(r) => r.number() as u64,
     }
+}
+
+fn malformed() -> u64
+    ensures { λ r. ⌜ r ≡ 9 ⌝ }
+{
+    code(Answer::Refused(Refusal::Malformed))
 }
 
 #[no_mangle]

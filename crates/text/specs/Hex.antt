@@ -1,12 +1,26 @@
 -- Laws of hexadecimal digits: byte by byte, how many, and the first of them.
-use mathlib.Core.Path.{_≡_, refl, sym, _∙_}
-use Prim.Native.Nat.{ℕ, zero, suc, _+_, _-_, _*_, _/_, _%_}
-use mathlib.Core.List.{[], _∷_, _++_, append-assoc}
+use mathlib.Core.Path.{_≡_, refl, ap, sym, _∙_}
+use Prim.Native.Nat.{ℕ, zero, suc, _+_, _-_, _*_, _/_, _%_, _^_, _≤_, _<_}
+use mathlib.Core.List.{List, [], _∷_, _++_, append-assoc}
 use native.Mathlib.Omega.{arith}
-use native.Mathlib.Nat.{add-zero, add-suc}
-use lib.ListN.{length, take, length-append}
+use native.Mathlib.Nat.{add-zero, add-suc, div-one}
+use lib.ListN.{length, getD, take, length-append}
+use lib.Pow.{shr-shr}
 use lib.Seq.{take-all, take-append-le}
+use lib.Dec.{eqb, eqb→eq}
 use Rattle.text.specs.Rules.{digit, hex, without}
+use Rattle.text.specs.Table.{at}
+
+-- THE DIGITS ONE AFTER ANOTHER, in a table.
+unfoldable pub digitsBelow : ℕ → List ℕ
+digitsBelow zero = []
+digitsBelow (suc n) = digitsBelow n ++ digit n ∷ []
+
+pub digit-at : (n : ℕ) → n < 16 → getD (digitsBelow 16) n 0 ≡ digit n
+unfolding digitsBelow digit
+digit-at n h = eqb→eq _ _ (at (λ k d. eqb d (digit k)) (digitsBelow 16) tt n h)
+
+-- DIGIT BY DIGIT
 
 pub hex-none : {k : ℕ} (n : ℕ) → k ≡ 0 → hex k n ≡ []
 unfolding hex
@@ -26,7 +40,7 @@ unfolding hex
 length-hex zero n = refl
 length-hex (suc k) n = rw (length-append, length-hex k (n / 16)) (omega arith)
 
-hex-suc : (k n : ℕ) → hex (suc k) n ≡ hex k (n / 16) ++ (digit (n % 16) ∷ [])
+pub hex-suc : (k n : ℕ) → hex (suc k) n ≡ hex k (n / 16) ++ (digit (n % 16) ∷ [])
 unfolding hex
 hex-suc k n = refl
 
@@ -51,3 +65,36 @@ take-hex j zero n = rw add-zero (take-all j (hex j n) (omega (arith, length-hex 
 take-hex j (suc k) n =
     rw (add-suc j k, hex-suc (j + k) n)
     (take-append-le j (hex (j + k) (n / 16)) _ (omega (arith, length-hex (j + k) (n / 16))) ∙ take-hex j k (n / 16))
+
+-- BY SHIFTS: a header's four bytes one after another, and each of the eight bytes of a frame's data.
+
+pub hex-word : (n : ℕ) → ((hex 2 (n / 0x1000000) ++ hex 2 (n / 0x10000)) ++ hex 2 (n / 0x100)) ++ hex 2 n ≡ hex 8 n
+hex-word n =
+    let a : n / 0x1000000 ≡ n / 0x10000 / 256 = omega arith in
+    let b : n / 0x10000 ≡ n / 0x100 / 256 = omega arith in
+    rw (a, hex-bytes 2 (n / 0x10000) (λ z. omega (arith, z)), b, hex-bytes 3 (n / 0x100) (λ z. omega (arith, z))) (hex-bytes 4 n (λ z. omega (arith, z)))
+
+without-shift : (k n : ℕ) → n / 2 ^ (4 * k) ≡ without k n
+unfolding without
+without-shift zero n = div-one n
+without-shift (suc k) n =
+    let e : 4 * suc k ≡ 4 + 4 * k = omega arith in
+    rw e (sym (shr-shr n 4 (4 * k)) ∙ without-shift k (n / 16))
+
+-- The first k bytes of eight.
+pub first-bytes : (k n : ℕ) → k ≤ 8 → take (2 * k) (hex 16 n) ≡ hex (2 * k) (n / 2 ^ (64 - 8 * k))
+first-bytes k n h =
+    let e : 2 * k + (16 - 2 * k) ≡ 16 = omega arith in
+    let f : 4 * (16 - 2 * k) ≡ 64 - 8 * k = omega arith in
+    ap (λ (j : ℕ). take (2 * k) (hex j n)) (sym e)
+    ∙ take-hex (2 * k) (16 - 2 * k) n
+    ∙ ap (hex (2 * k)) (sym (without-shift (16 - 2 * k) n) ∙ ap (λ (j : ℕ). n / 2 ^ j) f)
+
+-- One byte more.
+pub next-byte : (i n : ℕ) → i < 8 → take (2 * i) (hex 16 n) ++ hex 2 (n / 2 ^ (56 - 8 * i)) ≡ take (2 * (i + 1)) (hex 16 n)
+next-byte i n h =
+    let e : 64 - 8 * i ≡ 56 - 8 * i + 8 = omega arith in
+    let f : 64 - 8 * (i + 1) ≡ 56 - 8 * i = omega arith in
+    let g : i + 1 - 1 ≡ i = omega arith in
+    let whole : hex (2 * (i + 1 - 1)) (n / 2 ^ (56 - 8 * i) / 256) ++ hex 2 (n / 2 ^ (56 - 8 * i)) ≡ hex (2 * (i + 1)) (n / 2 ^ (56 - 8 * i)) = hex-bytes (i + 1) (n / 2 ^ (56 - 8 * i)) (λ z. omega (arith, z)) in
+    rw (first-bytes i n (omega arith), first-bytes (i + 1) n (omega arith), e, f, sym (shr-shr n (56 - 8 * i) 8)) (rw g at whole)

@@ -1,6 +1,6 @@
 -- Laws of writing on a sheet: one text after another, and what the buffer holds then.
 use Prim.Native.Nat.{ℕ, _+_, _≤_, _<_, min}
-use mathlib.Core.Path.{_≡_, refl, ap, sym, _∙_}
+use mathlib.Core.Path.{_≡_, refl, ap, sym, subst, _∙_}
 use mathlib.Core.Bool.{Bool, cond}
 use mathlib.Core.List.{List, [], _∷_, _++_, append-assoc}
 use native.Mathlib.Omega.{arith}
@@ -26,6 +26,10 @@ then {s} {t} {u} {xs} {ys} p q = record { is = q .is ∙ carried ys p }
 -- The same text, put another way.
 pub alike : {s t : Sheet} {xs ys : List ℕ} → Wrote s xs t → xs ≡ ys → Wrote s ys t
 alike {s} p e = record { is = p .is ∙ ap (write s) e }
+
+-- The same place.
+pub placed : {s : Sheet} {xs t : List ℕ} {n m : ℕ} → Wrote s xs (sheet t n) → n ≡ m → Wrote s xs (sheet t m)
+placed {s} {xs} {t} p e = subst (λ (k : ℕ). Wrote s xs (sheet t k)) e p
 
 pub blank : (s : Sheet) → Wrote s [] s
 unfolding write

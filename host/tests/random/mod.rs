@@ -147,7 +147,7 @@ fn script_of(random: &mut Random, line: impl Fn(&mut Random) -> String) -> Strin
 
 fn line(random: &mut Random) -> String {
     let index = index(random);
-    match random.below(12) {
+    match random.below(13) {
         0 | 1 => format!("on {index} {}", id(random)),
         2 | 3 => format!("send {}", random.pick(&["0", "1", "2", "all", "ALL", "23", "24"])),
         4 | 5 => format!("deliver {}", random.pick(&["0", "1", "2", "all", "3", "255"])),
@@ -163,6 +163,7 @@ fn line(random: &mut Random) -> String {
                 random.pick(&["05", "02 00", "05.05", "0400 09 01", "010005010101010105"])
             ),
         },
+        11 => log(random),
         _ if random.one_in(2) => format!("message {index} {}{}", field(random), data(random)),
         _ => format!("enquiry {index}{}{}", asked(random), length(random)),
     }
@@ -238,7 +239,7 @@ fn frame(random: &mut Random) -> String {
     let bit = bit_28(random);
     let header =
         random.pick(&["17050263", "00700263", "195B4262", "FFFFFFFF", "10704263", "00000000"]);
-    match random.below(10) {
+    match random.below(11) {
         0 => format!("CID {} {alias}{bit}{}", 1 + random.below(7), length(random)),
         1 => format!("CID {} {alias} 0f{}{data}{bit}", 1 + random.below(7), random.below(10)),
         2 => format!("{} {alias}{data}{bit}", random.pick(&["RID", "amd", "AME", "AMR"])),
@@ -248,6 +249,22 @@ fn frame(random: &mut Random) -> String {
         6 => format!("remote {header}{data}{bit}"),
         7 => format!("short {}{data}", random.pick(&["123", "7FF", "FFF", "00000123", "00001000"])),
         8 => format!("kind {} {header}{data}", random.below(256)),
+        9 => text(random),
         _ => format!("{header}{data}{bit}"),
     }
+}
+
+/// A frame as GridConnect text.
+fn text(random: &mut Random) -> String {
+    let header =
+        random.pick(&["17050263", "00700263", "195B4262", "10702fff", "1FFFFFFF", "00000000"]);
+    let data = random.pick(&["", "01", "0102", "abCD", "050101010101", "0101000000000201"]);
+    format!(":X{header}N{data};")
+}
+
+/// A line of a viewer's log.
+fn log(random: &mut Random) -> String {
+    let between = random.pick(&["", " ", "  "]);
+    let texts: Vec<String> = (0..1 + random.below(3)).map(|_| text(random)).collect();
+    texts.join(between)
 }

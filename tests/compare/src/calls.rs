@@ -1,11 +1,15 @@
 //! Single calls, the proved ones and the same in plain Rust: power-on beside 23 others, looking up in a full map, noting, reading and
-//! writing headers. A call of the library goes through a pointer, which the linker fills in; so does one in plain Rust, which is not
-//! inlined either.
+//! writing headers and GridConnect text. A call of the library goes through a pointer, which the linker fills in; so does one in
+//! plain Rust, which is not inlined either.
 
-use crate::card::{read_header, write_header, Card, ProvedMap};
+use crate::card::{read_grid, read_header, write_grid, write_header, Card, ProvedMap};
+use crate::operations::gridconnect::words;
 use crate::operations::headers::{parts, write};
 use crate::operations::put_out;
-use reference::header;
+use reference::generate::grid_texts::{any_header, text_of};
+use reference::generate::prng::Prng;
+use reference::header::HEADER_MAX;
+use reference::{gridconnect, header};
 use reference::{Alias, AliasMap, Frame, Refusal, Segment};
 use std::hint::black_box;
 
@@ -38,7 +42,7 @@ fn full() -> (ProvedMap, AliasMap) {
 }
 
 /// As the call for C has it: the answer is 0 or the refusal's number; what a look-up found and how many entries it compared, or the
-/// parts that were read, or the header that was written, go into words that are lent.
+/// parts or the frame that were read, or the header or the length that was written, go into words that are lent.
 fn as_for_c<const N: usize>(answer: Result<[u64; N], Refusal>, lent: &mut [u64; N]) -> u64 {
     match answer {
         Ok(words) => {
@@ -72,6 +76,16 @@ fn plain_read(header: u32, words: &mut [u64; 7]) -> u64 {
 #[inline(never)]
 fn plain_write(bit: u8, class: u8, field: u16, alias: u16, header: &mut [u64; 1]) -> u64 {
     as_for_c(write(bit, class, field, alias).map(|written| [written]), header)
+}
+
+#[inline(never)]
+fn plain_write_grid(text: &mut [u8], header: u32, len: u8, bytes: u64, written: &mut [u64; 1]) -> u64 {
+    as_for_c(gridconnect::write(text, header, len, bytes.to_be_bytes()).map(|length| [length as u64]), written)
+}
+
+#[inline(never)]
+fn plain_read_grid(text: &[u8], frame: &mut [u64; 3]) -> u64 {
+    as_for_c(gridconnect::read(text).map(words), frame)
 }
 
 /// Looking `key` up in a full map, which gives these two words, or 13 where there are none.
@@ -209,6 +223,60 @@ fn writing() -> Row {
     }
 }
 
+/// Different frames by chance, of these lengths in turn: header, length and data. There are so many that a branch cannot be learnt
+/// from those before, as on a bus.
+fn grid_frames(lens: &[u8]) -> Vec<(u32, u8, u64)> {
+    const FRAMES: usize = 6_400;
+    let mut rng = Prng::new(7);
+    (0..FRAMES).map(|number| (any_header(&mut rng) & HEADER_MAX, lens[number % lens.len()], rng.number())).collect()
+}
+
+fn writing_grid(name: &'static str, lens: &[u8]) -> Row {
+    let frames = grid_frames(lens);
+    let plain_call: fn(&mut [u8], u32, u8, u64, &mut [u64; 1]) -> u64 = black_box(plain_write_grid);
+    let (mut text, mut plain_text) = ([0; 28], [0; 28]);
+    for &(header, len, bytes) in &frames {
+        let written = put_out(|words| write_grid(&mut text, header, len, bytes, words));
+        assert_eq!(written, put_out(|words| plain_call(&mut plain_text, header, len, bytes, words)));
+        assert_eq!((written.0, text), (0, plain_text));
+    }
+    let plain_frames = frames.clone();
+    let (mut words, mut plain_words) = ([0; 1], [0; 1]);
+    Row {
+        name,
+        proved: Box::new(move |turn| {
+            let (header, len, bytes) = frames[black_box(turn) as usize % frames.len()];
+            black_box(write_grid(&mut text, header, len, bytes, &mut words));
+        }),
+        plain: Box::new(move |turn| {
+            let (header, len, bytes) = plain_frames[black_box(turn) as usize % plain_frames.len()];
+            black_box(plain_call(&mut plain_text, header, len, bytes, &mut plain_words));
+        }),
+    }
+}
+
+/// The texts of the same frames.
+fn reading_grid(name: &'static str, lens: &[u8]) -> Row {
+    let text = |(header, len, bytes): (u32, u8, u64)| text_of(header, &bytes.to_be_bytes()[..len.into()]);
+    let texts: Vec<Vec<u8>> = grid_frames(lens).into_iter().map(text).collect();
+    let plain_call: fn(&[u8], &mut [u64; 3]) -> u64 = black_box(plain_read_grid);
+    for text in &texts {
+        let read = put_out(|words| read_grid(text, words));
+        assert_eq!((read.0, read), (0, put_out(|words| plain_call(text, words))));
+    }
+    let plain_texts = texts.clone();
+    let (mut words, mut plain_words) = ([0; 3], [0; 3]);
+    Row {
+        name,
+        proved: Box::new(move |turn| {
+            black_box(read_grid(&texts[black_box(turn) as usize % texts.len()], &mut words));
+        }),
+        plain: Box::new(move |turn| {
+            black_box(plain_call(&plain_texts[black_box(turn) as usize % plain_texts.len()], &mut plain_words));
+        }),
+    }
+}
+
 /// Looking up in a full map, each way: its first entry, its last, and one that is absent.
 pub fn look_ups() -> [[Row; 3]; 2] {
     [
@@ -218,12 +286,17 @@ pub fn look_ups() -> [[Row; 3]; 2] {
 }
 
 /// All other calls.
-pub fn others() -> [Row; 6] {
+pub fn others() -> [Row; 10] {
+    let each: Vec<u8> = (0..=8).collect();
     [
         noting("full map, oldest renewed", 0, 0),
         noting("full map, refused by 12", 64, 12),
         reading(),
         writing(),
+        writing_grid("GridConnect written, 0 to 8", &each),
+        writing_grid("GridConnect written, 8 bytes", &[8]),
+        reading_grid("GridConnect read, the same", &each),
+        reading_grid("GridConnect read, 8 bytes", &[8]),
         powering_on("power-on, the own Node ID", 24, |number| number, 0),
         powering_on("power-on, refused by 15", 23, |_| 23, 15),
     ]

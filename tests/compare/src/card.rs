@@ -1,5 +1,5 @@
 //! The proved operations of crates/card_api behind safe types, as c/card.h has them for C: a table and a map, each between guard
-//! words; headers and aliases.
+//! words; headers and aliases; GridConnect text.
 
 include!(concat!(env!("OUT_DIR"), "/sizes.rs"));
 
@@ -181,4 +181,14 @@ pub fn first_alias(id: u64, alias: &mut [u64; 1]) -> u64 {
 /// State, alias.
 pub fn next_alias(state: u64, next: &mut [u64; 2]) -> u64 {
     unsafe { lcc_next_alias(state, next.as_mut_ptr()) }
+}
+
+/// The text's length.
+pub fn write_grid(text: &mut [u8], header: u32, len: u8, bytes: u64, written: &mut [u64; 1]) -> u64 {
+    unsafe { grid_write(text.as_mut_ptr(), text.len(), header, len, bytes, written.as_mut_ptr()) }
+}
+
+/// Header, length, data.
+pub fn read_grid(text: &[u8], frame: &mut [u64; 3]) -> u64 {
+    unsafe { grid_read(text.as_ptr(), text.len(), frame.as_mut_ptr()) }
 }

@@ -1,9 +1,10 @@
-//! Another implementation of document 01, with requests A.1 to A.6 of document 02, without proofs: the
+//! Another implementation of document 01, with requests A.1 to A.7 of document 02, without proofs: the
 //! peer for tests and for speed.
 
 pub mod alias;
 pub mod command;
 pub mod frame;
+pub mod gridconnect;
 pub mod header;
 pub mod inbox;
 pub mod limits;

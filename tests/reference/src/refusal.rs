@@ -18,6 +18,8 @@ pub enum Refusal {
     Absent = 13,
     BadLinkState = 14,
     NodeIdInUse = 15,
+    NotGridConnect = 16,
+    ShortBuffer = 17,
 }
 
 impl Refusal {

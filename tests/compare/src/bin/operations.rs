@@ -1,13 +1,13 @@
 //! Compares the operations for C with the other implementation. The table: OPERATIONS commands, and all that is seen after each of
 //! them; first the lists of the stored corpus, which meet every state with every event that a script can carry, then lists with
 //! link orders, which meet the rest too, then lists at random corners of A.3, then others by chance. Some of the lists are also
-//! carried out on two proved tables, with bit 28 of foreign frames turned in one. Then headers, aliases and the map. SEED may be
-//! given.
+//! carried out on two proved tables, with bit 28 of foreign frames turned in one. Then headers, aliases, GridConnect text and the
+//! map. SEED may be given.
 
 use compare::operations::map::{self, Counts, LookUps};
 use compare::operations::operation::Operation;
 use compare::operations::twins::{self, MapCounts};
-use compare::operations::{corners, cover, headers, list, pair};
+use compare::operations::{corners, cover, grid_marks, gridconnect, headers, list, pair};
 use compare::setting::{fresh_seed, setting};
 use compare::shrink::fewest;
 use reference::generate::coverage::Coverage;
@@ -29,6 +29,7 @@ fn main() {
     let wanted = setting("OPERATIONS", 1, 2_000_000) as usize;
     let at_corners = compare_tables(seed, wanted);
     compare_headers(seed);
+    compare_gridconnect(seed);
     compare_maps(seed);
     println!("operations: {at_corners}");
 }
@@ -41,6 +42,18 @@ fn compare_headers(seed: u64) {
         "operations: {read_again} headers that were written are read as their parts; {written_back} that were read are written \
          back as they were, with their own bit 28, and {alias_zero} with alias 0 are refused by 9"
     );
+}
+
+fn compare_gridconnect(seed: u64) {
+    let counts = gridconnect::compare(seed).unwrap_or_else(|what| fail(&format!("SEED={seed}: {what}")));
+    all_met("these marks of GridConnect text were never met", &counts.missing());
+    let grid_marks::Counts { written, malformed, short, read, refused, read_again, written_back, .. } = counts;
+    println!(
+        "operations: GridConnect text agrees: {written} frames written, {malformed} refused by 9, {short} by 17; {read} texts \
+         read, {refused} refused by 16;"
+    );
+    println!("operations: of frames with 0 to 8 bytes, {read_again:?} were written and are read as themselves;");
+    println!("operations: {written_back:?} were read, and are written as their texts with the letters raised");
 }
 
 /// Compares tables, and gives a line on the lists at corners.

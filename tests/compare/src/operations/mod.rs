@@ -2,6 +2,9 @@
 
 pub mod corners;
 pub mod cover;
+pub mod grid_marks;
+pub mod grid_text;
+pub mod gridconnect;
 pub mod headers;
 pub mod list;
 pub mod map;

@@ -1,4 +1,4 @@
-//! Scripts and lists made from a seed, the coverage they reach, and the stored corpora.
+//! Scripts, lists and texts made from a seed, the coverage they reach, and the stored corpora.
 
 pub mod cases;
 pub mod changes;
@@ -7,6 +7,8 @@ pub mod corpus;
 pub mod coverage;
 pub mod draft;
 pub mod filler;
+pub mod grid_faults;
+pub mod grid_texts;
 pub mod id_marks;
 pub mod link_lists;
 pub mod link_marks;
