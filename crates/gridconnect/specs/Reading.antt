@@ -4,7 +4,7 @@ use Prim.Native.Nat.{ℕ, _+_, _-_, _*_, _/_, _%_, _^_, _≤_, _<_}
 use mathlib.Core.Bool.{Bool, true, false, cond, not, _&&_, _||_}
 use mathlib.Core.List.{List}
 use native.Mathlib.Omega.{arith}
-use borrow.Author.Tests.{le-leb, lt-leb, eq-eqb, leb-true, eqb-true}
+use borrow.Author.Tests.{le-leb, lt-leb, eq-eqb, ne-eqb, leb-true, eqb-true}
 use lib.Dec.{eqb}
 use lib.ListN.{length, take, drop, getD, length-take, length-drop}
 use Rattle.headers.specs.Rules.{accepted, refused, refuse}
@@ -16,6 +16,10 @@ use Rattle.gridconnect.specs.declared.digits.Parsed as P
 pub both : (a b : Bool) → a && b ≡ true → (a ≡ true) × (b ≡ true)
 both true b e = (refl, e)
 both false b e = absurd (let z : _≡_ {A = ℕ} 0 1 = ap (λ (x : Bool). cond x 1 0) e in omega (arith, z))
+
+none : (a : Bool) → a && false ≡ false
+none true = refl
+none false = refl
 
 module _ (t : List ℕ) where
   -- What is the same in every text, in a text of which only the digits are open.
@@ -47,6 +51,32 @@ module _ (t : List ℕ) where
         last = eqb-true _ _ (f .1);
       }
 
+  -- One thing that is wrong is enough,
+  pub too-few : length t < 12 → false ≡ framed t
+  unfolding framed
+  too-few h = rw (lt-leb 12 (length t) h) refl
+
+  pub too-many : 28 < length t → false ≡ framed t
+  unfolding framed
+  too-many h = rw (lt-leb (length t) 28 h, none) refl
+
+  pub odd : (length t % 2 ≡ 0 → ⊥) → false ≡ framed t
+  unfolding framed
+  odd h = rw (ne-eqb (length t % 2) 0 h, none) refl
+
+  pub no-colon : (getD t 0 0 ≡ colon → ⊥) → false ≡ framed t
+  unfolding framed
+  no-colon h = rw (ne-eqb (getD t 0 0) colon h, none, none) refl
+
+  pub no-X : (getD t 1 0 ≡ letterX → ⊥) → false ≡ framed t
+  unfolding framed
+  no-X h = rw (ne-eqb (getD t 1 0) letterX h, none, none, none) refl
+
+  pub no-N : (getD t 10 0 ≡ letterN → ⊥) → false ≡ framed t
+  unfolding framed
+  no-N h = rw (ne-eqb (getD t 10 0) letterN h, none, none, none, none) refl
+
+  -- and where nothing else is, the last byte decides.
   pub last-decides : 12 ≤ length t → length t ≤ 28 → length t % 2 ≡ 0 → getD t 0 0 ≡ colon → getD t 1 0 ≡ letterX → getD t 10 0 ≡ letterN
       → eqb (getD t (length t - 1) 0) semicolon ≡ framed t
   unfolding framed
