@@ -207,8 +207,8 @@ enum { LCC_NEXT_STATE, LCC_NEXT_ALIAS, LCC_NEXT_WORDS };
 /* The longest text, that of eight data bytes: 12 + 2 * 8. A buffer of so many bytes has room for every frame. */
 #define GRID_TEXT_MAX 28
 
-/* Writes a frame as text, in upper case, and gives the text's length. Room for exactly the text is enough; what the buffer has
- * beyond the text stays as it was. 9, 17. */
+/* Writes a frame as text, in upper case, and gives the text's length. header: 29 bits at most. len: 0 to 8. Room for exactly the
+ * text is enough; what the buffer has beyond the text stays as it was. 9, 17. */
 uint64_t grid_write(uint8_t *text, size_t room, uint32_t header, uint8_t len, uint64_t bytes, uint64_t written[1]);
 
 /* Reads a text of this length; its hex digits may be in either case. The header keeps all 29 bits, and its alias may be 0. 16. */

@@ -74,14 +74,18 @@ static void deliver_all(void) {
         }
 }
 
-/* Each exhibit sends all that is due; here a driver would put the frame on the bus, where a viewer sees it. */
+/* A frame has left; here a driver would put it on the bus, where a viewer sees it. */
+static void put_on_bus(const uint64_t sent[CARD_SENT_WORDS]) {
+    map_note(map, 0, (uint32_t)sent[CARD_SENT_HEADER], (uint8_t)sent[CARD_SENT_LEN], sent[CARD_SENT_BYTES]);
+    deliver_all();
+}
+
+/* Each exhibit sends all that is due. */
 static void send_all(void) {
     uint64_t sent[CARD_SENT_WORDS];
     for (size_t i = 0; i < CARD_NODES; i++)
-        while (card_send(table, i, sent) == 0) {
-            map_note(map, 0, (uint32_t)sent[CARD_SENT_HEADER], (uint8_t)sent[CARD_SENT_LEN], sent[CARD_SENT_BYTES]);
-            deliver_all();
-        }
+        while (card_send(table, i, sent) == 0)
+            put_on_bus(sent);
 }
 
 /* The main loop of firmware, for so many milliseconds. */
@@ -199,11 +203,12 @@ static void take_text(const char *text) {
     }
     printf("%6u ms  the viewer sends %s\n", now, text);
     card_foreign(table, 0, (uint32_t)frame[GRID_FRAME_HEADER], (uint8_t)frame[GRID_FRAME_LEN], frame[GRID_FRAME_BYTES]);
+    map_note(map, 0, (uint32_t)frame[GRID_FRAME_HEADER], (uint8_t)frame[GRID_FRAME_LEN], frame[GRID_FRAME_BYTES]);
     deliver_all();
     for (size_t i = 0; i < CARD_NODES; i++)
-        if (card_send(table, i, sent) == 0) {
+        while (card_send(table, i, sent) == 0) {
             show_text(i, sent);
-            deliver_all();
+            put_on_bus(sent);
         }
 }
 

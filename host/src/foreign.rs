@@ -71,7 +71,7 @@ fn no_bit_28(kind: u8) -> String {
 
 fn kind_and_header(words: &mut Words) -> Parsed<(u8, u32)> {
     const FRAME: &str = "a header of 8 hex digits, or one of CID, RID, AMD, AME, AMR, error, message, remote, short, kind, \
-                         or GridConnect text as :X17050263N;";
+                         or GridConnect text";
     let first = words.peek().ok_or(format!("the frame is missing; expected {FRAME}"))?;
     if pairs(first).is_some_and(|bytes| bytes.len() == 4) {
         return Ok((EXTENDED, words.header(8)?));

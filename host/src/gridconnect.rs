@@ -6,7 +6,8 @@ use crate::frame::Frame;
 use crate::operands::Parsed;
 
 /// The form of a line of such texts.
-pub const FORM: &str = ":X17050263N0102;, with 8 digits of header and 0 to 8 bytes, or several";
+pub const FORM: &str =
+    ":X17050263N0102; once or more, each with 8 digits of header and 0 to 8 bytes";
 
 /// Places of a text, from 0: that of the header's first digit, that of `N`, and that of `;` behind eight bytes.
 const HEADER: usize = 2;
@@ -83,7 +84,7 @@ fn expected(at: usize) -> &'static str {
 /// What is at a place, in words.
 fn shown(at: usize, found: char) -> String {
     match (at, found) {
-        (_, ' ') => "a blank".into(),
+        (_, ' ' | '\t') => "a blank".into(),
         (1, 'S' | 's') => {
             format!("\"{found}\", for an eleven-bit frame, which foreign short takes")
         }

@@ -75,10 +75,12 @@ pub fn sources(text: &str) -> Vec<Source<'_>> {
 }
 
 /// Each line counts by its first word: a command's name, or GridConnect text, for names; a word that begins with a digit, or has hex
-/// digits alone, for hex. The greater number decides, and where they are equal it is a script by name.
+/// digits alone, for hex. A line with a colon, which only GridConnect text has, counts for names, whatever stands before that. The
+/// greater number decides, and where they are equal it is a script by name.
 pub fn form_of(sources: &[Source]) -> Form {
     let first = |source: &Source| source.text.split_whitespace().next().unwrap_or("").to_string();
-    let by_name = sources.iter().filter(|s| names::begins(&first(s))).count();
+    let is_by_name = |source: &&Source| names::begins(&first(source)) || source.text.contains(':');
+    let by_name = sources.iter().filter(is_by_name).count();
     let in_hex = sources.iter().filter(|s| begins_hex(&first(s))).count();
     if in_hex > by_name {
         Form::Hex

@@ -127,13 +127,14 @@ fn a_long_log_fills_no_inbox() {
 }
 
 /// Texts that are wrong, and what is said of each.
-const WRONG: [(&str, &str); 21] = [
+const WRONG: [(&str, &str); 22] = [
     (":x17050263N;", "character 2 is \"x\"; expected \"X\", in upper case"),
     (
         ":S123N;",
         "character 2 is \"S\", for an eleven-bit frame, which foreign short takes; expected \"X\"",
     ),
     ("X17050263N;", "character 1 is \"X\"; expected \":\""),
+    ("x17050263N;", "character 1 is \"x\"; expected \":\""),
     ("::X17050263N;", "character 2 is \":\"; expected \"X\""),
     (
         ":X20000000N;",
@@ -191,8 +192,7 @@ fn a_wrong_text_is_named() {
         let said = format!("\"{text}\" is no GridConnect frame: {expected}");
         for before in ["foreign ", "", ":X17050263N;", ":X17050263N; "] {
             let why = why(&format!("{before}{text}"));
-            let form =
-                if before == "foreign " { "foreign FRAME" } else { ":X17050263N0102;, with" };
+            let form = if before == "foreign " { "foreign FRAME" } else { ":X17050263N0102; once" };
             assert!(why.contains(&format!("; the form is: {form}")), "{before}{text}: {why}");
             assert!(why.starts_with(&said), "{before}{text}: {why}");
         }
@@ -207,13 +207,34 @@ fn nothing_follows_a_text() {
         let said = format!("\"{more}\" is too much: GridConnect text has a frame's data, its length and bit 28 in itself");
         assert!(why.starts_with(&said), "{more}: {why}");
     }
-    for more in ["01", "length 0", "bit28 0", "send 0"] {
+    for more in ["01", "length 0", "bit28 0", "send 0", ";"] {
         let why = why(&format!(":X17050263N; {more}"));
         assert!(
             why.starts_with(&format!("\"{more}\" is no GridConnect frame: character 1 is")),
             "{why}"
         );
     }
+}
+
+/// A word that is not meant as such a text is no command, and no frame after `foreign`; a time before a text is one.
+#[test]
+fn other_words_are_not_taken_for_a_text() {
+    for word in ["tick;", "X17050263N", "!X17050263N;", "[:X17050263N;]", "12:00:01.5", "1234"] {
+        for behind in ["", " :X17050263N;"] {
+            let said = why(&format!("{word}{behind}"));
+            assert!(
+                said.starts_with(&format!("\"{word}\" is no command; expected one of on,")),
+                "{said}"
+            );
+            assert!(said.ends_with(", or GridConnect text as :X17050263N;"), "{said}");
+        }
+        let said = why(&format!("foreign {word}"));
+        let form = "or GridConnect text; the form is: foreign FRAME [length N] [bit28 BIT], or foreign :X17050263N;";
+        assert!(said.starts_with(&format!("\"{word}\" is no frame; expected")), "{said}");
+        assert!(said.ends_with(form), "{said}");
+    }
+    let said = why(":X17050263N\t01;");
+    assert!(said.contains(": character 12 is a blank; expected a byte"), "{said}");
 }
 
 /// A text with some characters changed, left out or put in.

@@ -395,6 +395,10 @@ fn forms_are_told_apart() {
         (":X17050263N;", Names),
         (":X17050263N;\n05", Names),
         (":x\n:\n05", Names),
+        ("X17050263N;\n05", Names),
+        ("12:00:01.5 :X17050263N;\n12:00:01.7 :X10700263N;", Names),
+        ("1234 :X17050263N;", Names),
+        ("05:05\n05", Hex),
     ];
     for (text, form) in forms {
         assert_eq!(script::form_of(&script::sources(text)), form, "{text:?}");

@@ -1,4 +1,4 @@
-//! Links the static libraries that `rt staticlib` wrote, and takes the sizes of a table and a map from c/card.h.
+//! Links the static libraries that `rt staticlib` wrote, and takes the sizes of a table, a map and the longest text from c/card.h.
 
 use std::{env, fs};
 
@@ -13,7 +13,7 @@ fn main() {
     let header = format!("{root}/../../c/card.h");
     println!("cargo:rerun-if-changed={header}");
     let header = fs::read_to_string(header).expect("c/card.h");
-    let sizes: String = ["CARD_WORDS", "MAP_WORDS"].iter().map(|name| constant(&header, name)).collect();
+    let sizes: String = ["CARD_WORDS", "MAP_WORDS", "GRID_TEXT_MAX"].iter().map(|name| constant(&header, name)).collect();
     let out = env::var("OUT_DIR").expect("cargo sets it");
     fs::write(format!("{out}/sizes.rs"), sizes).expect("a file in OUT_DIR");
 }

@@ -2,13 +2,12 @@
 //! writing headers and GridConnect text. A call of the library goes through a pointer, which the linker fills in; so does one in
 //! plain Rust, which is not inlined either.
 
-use crate::card::{read_grid, read_header, write_grid, write_header, Card, ProvedMap};
+use crate::card::{read_grid, read_header, write_grid, write_header, Card, ProvedMap, GRID_TEXT_MAX};
 use crate::operations::gridconnect::words;
 use crate::operations::headers::{parts, write};
 use crate::operations::put_out;
 use reference::generate::grid_texts::{any_header, text_of};
 use reference::generate::prng::Prng;
-use reference::header::HEADER_MAX;
 use reference::{gridconnect, header};
 use reference::{Alias, AliasMap, Frame, Refusal, Segment};
 use std::hint::black_box;
@@ -228,13 +227,13 @@ fn writing() -> Row {
 fn grid_frames(lens: &[u8]) -> Vec<(u32, u8, u64)> {
     const FRAMES: usize = 6_400;
     let mut rng = Prng::new(7);
-    (0..FRAMES).map(|number| (any_header(&mut rng) & HEADER_MAX, lens[number % lens.len()], rng.number())).collect()
+    (0..FRAMES).map(|number| (any_header(&mut rng), lens[number % lens.len()], rng.number())).collect()
 }
 
 fn writing_grid(name: &'static str, lens: &[u8]) -> Row {
     let frames = grid_frames(lens);
     let plain_call: fn(&mut [u8], u32, u8, u64, &mut [u64; 1]) -> u64 = black_box(plain_write_grid);
-    let (mut text, mut plain_text) = ([0; 28], [0; 28]);
+    let (mut text, mut plain_text) = ([0; GRID_TEXT_MAX], [0; GRID_TEXT_MAX]);
     for &(header, len, bytes) in &frames {
         let written = put_out(|words| write_grid(&mut text, header, len, bytes, words));
         assert_eq!(written, put_out(|words| plain_call(&mut plain_text, header, len, bytes, words)));
@@ -295,7 +294,7 @@ pub fn others() -> [Row; 10] {
         writing(),
         writing_grid("GridConnect written, 0 to 8", &each),
         writing_grid("GridConnect written, 8 bytes", &[8]),
-        reading_grid("GridConnect read, the same", &each),
+        reading_grid("GridConnect read, 0 to 8", &each),
         reading_grid("GridConnect read, 8 bytes", &[8]),
         powering_on("power-on, the own Node ID", 24, |number| number, 0),
         powering_on("power-on, refused by 15", 23, |_| 23, 15),

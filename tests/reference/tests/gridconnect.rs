@@ -238,6 +238,20 @@ fn the_texts_have_each_length_with_each_sort_of_letters() {
     }
 }
 
+fn distinct<T: Ord>(texts: impl Iterator<Item = T>) -> usize {
+    texts.collect::<BTreeSet<T>>().len()
+}
+
+/// So many texts come of one of 12 bytes, of which no two neighbours are equal. Those with a byte doubled
+/// come twice, and so does the empty cut.
+#[test]
+fn each_change_is_made_at_every_place() {
+    assert_eq!(distinct(replaced(CID).map(|(_, _, other)| other)), 12 * 255 + 1);
+    assert_eq!(distinct(inserted(CID)), 13 * 256 - 12);
+    assert_eq!(distinct(left_out(CID)), 12);
+    assert_eq!(distinct(cuts(CID)), 2 * 12 - 1);
+}
+
 #[test]
 fn every_frame_that_is_written_reads_back_as_itself() {
     let mut rng = Prng::new(seed());

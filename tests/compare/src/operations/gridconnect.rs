@@ -291,6 +291,11 @@ mod tests {
                     Some(b';') => read_grid(text, frame),
                     _ => read_after(text, frame, |text| text.push(b';')),
                 },
+                // Nothing in place of `:X`.
+                |text, frame| match text {
+                    [b'0' | b'1', ..] => read_after(text, frame, |text| drop(text.splice(..0, *b":X"))),
+                    _ => read_grid(text, frame),
+                },
                 // Half a byte left out; a ninth byte left out; the bytes counted modulo 256.
                 |text, frame| match text.len() % 2 {
                     1 if text.len() > 12 => read_after(text, frame, |text| _ = text.remove(text.len() - 2)),
