@@ -1,4 +1,5 @@
--- The papers' number and values for each case of the code's answers.
+-- The papers' number and values for each case of the code's answers. The worked examples are named here, though not needed, so that
+-- they are checked first: a wrong rule is then refused by one of them.
 use mathlib.Core.Path.{_≡_}
 use Prim.Native.Nat.{ℕ, _^_, _<_}
 use mathlib.Core.Bool.{true, false}
@@ -6,6 +7,7 @@ use mathlib.Core.List.{List}
 use lib.ListN.{length}
 use Rattle.headers.specs.Rules.{Answer, accepted, refused}
 use Rattle.gridconnect.specs.Rules.{write, lengthOf, bufferOf, areDigits, number, Frame}
+use Rattle.gridconnect.specs.Examples as Examples
 use Rattle.gridconnect.specs.declared.answer.Written as W
 use Rattle.gridconnect.specs.declared.answer.Read as R
 use Rattle.gridconnect.specs.declared.digits.Parsed as P

@@ -1,10 +1,10 @@
 -- Laws of digits in either case: their values, the number that they stand for one by one, and how great it can be.
 use mathlib.Core.Path.{_≡_, refl, ap, sym, subst, _∙_}
 use Prim.Native.Nat.{ℕ, zero, suc, _+_, _-_, _*_, _%_, _^_, _≤_, _<_}
-use mathlib.Core.Bool.{Bool, true, false, _&&_}
+use mathlib.Core.Bool.{true, false, _&&_, and-true, and-false, and-assoc}
 use mathlib.Core.List.{List, [], _∷_, _++_}
 use native.Mathlib.Omega.{arith}
-use native.Mathlib.Nat.{zero-mul, pow-suc, pow-le-pow-right, lt-of-lt-of-le}
+use native.Mathlib.Nat.{zero-mul, mul-zero, mul-suc, pow-zero, pow-suc, pow-le-pow-right, lt-of-lt-of-le}
 use native.Mathlib.Numerals.{add-one}
 use borrow.Author.Tests.{lt-ltb, le-ltb, le-leb, lt-leb}
 use lib.Dec.{ltb, eqb, eqb→eq}
@@ -40,14 +40,10 @@ value-high b h = rw (le-leb 48 b (omega arith), le-leb 65 b (omega arith), le-le
 
 -- ONE LIST AFTER ANOTHER
 
-and-assoc : (a b c : Bool) → a && (b && c) ≡ (a && b) && c
-and-assoc true b c = refl
-and-assoc false b c = refl
-
 pub are-append : (xs ys : List ℕ) → areDigits (xs ++ ys) ≡ areDigits xs && areDigits ys
 unfolding areDigits
 are-append [] ys = refl
-are-append (x ∷ xs) ys = rw (are-append xs ys) (and-assoc (ltb (value x) 16) (areDigits xs) (areDigits ys))
+are-append (x ∷ xs) ys = rw (are-append xs ys) (sym (and-assoc (ltb (value x) 16) (areDigits xs) (areDigits ys)))
 
 pub number-append : (m : ℕ) (xs ys : List ℕ) → numberFrom m (xs ++ ys) ≡ numberFrom (numberFrom m xs) ys
 unfolding numberFrom
@@ -56,11 +52,7 @@ number-append m (x ∷ xs) ys = number-append (16 * m + value x) xs ys
 
 pub are-one : (d : ℕ) → areDigits (d ∷ []) ≡ ltb (value d) 16
 unfolding areDigits
-are-one d = go (ltb (value d) 16)
-  where
-    go : (b : Bool) → b && true ≡ b
-    go true = refl
-    go false = refl
+are-one d = and-true (ltb (value d) 16)
 
 pub number-one : (m d : ℕ) → numberFrom m (d ∷ []) ≡ 16 * m + value d
 unfolding numberFrom
@@ -74,11 +66,7 @@ module _ (ds : List ℕ) (i : ℕ) (h : i < length ds) where
 
   pub are-not : 16 ≤ value (getD ds i 0) → areDigits ds ≡ false
   unfolding areDigits
-  are-not q = ap areDigits (split-at ds i 0 h) ∙ are-append (take i ds) _ ∙ rw (le-ltb (value (getD ds i 0)) 16 q) (none (areDigits (take i ds)))
-    where
-      none : (b : Bool) → b && false ≡ false
-      none true = refl
-      none false = refl
+  are-not q = ap areDigits (split-at ds i 0 h) ∙ are-append (take i ds) _ ∙ rw (le-ltb (value (getD ds i 0)) 16 q) (and-false (areDigits (take i ds)))
 
   number-more : number (take (i + 1) ds) ≡ 16 * number (take i ds) + value (getD ds i 0)
   number-more = rw (add-one, take-suc ds i 0 h, number-append, number-one) refl
@@ -118,16 +106,18 @@ pub stand-not : (ds : List ℕ) {r : P.Parsed} → r ≡ P.the-variants.NotDigit
 stand-not ds e p = subst (λ (r : P.Parsed). Stands r ds) e p
 
 -- With fewer than 16 of them, one more fits into 64 bits.
-pub room : {ds : List ℕ} {n i : ℕ} → i < 16 → SoFar ds n i → n < 2 ^ 60
-room {n = n} {i = i} h p = lt-of-lt-of-le (p .below) (pow-le-pow-right (omega arith) {i = i} {j = 15} (omega arith))
+pub below-60-bits : {ds : List ℕ} {n i : ℕ} → i < 16 → SoFar ds n i → n < 2 ^ 60
+below-60-bits {n = n} {i = i} h p = lt-of-lt-of-le (p .below) (pow-le-pow-right (omega arith) {i = i} {j = 15} (omega arith))
 
 -- ZEROS BEHIND THE DIGITS, 16 digits in all
 
+-- Powers of 16 and of 256 are powers of 2.
+pub in-bits : (b k : ℕ) → (2 ^ b) ^ k ≡ 2 ^ (b * k)
+in-bits b zero = rw (mul-zero, pow-zero) refl
+in-bits b (suc k) = rw (pow-suc, in-bits b k, mul-suc) (sym (pow-add 2 (b * k) b))
+
 pub sixteens : (k : ℕ) → 16 ^ k ≡ 2 ^ (4 * k)
-sixteens zero = refl
-sixteens (suc k) =
-    let e : 4 * suc k ≡ 4 * k + 4 = omega arith in
-    rw (pow-suc, sixteens k, e) (sym (pow-add 2 (4 * k) 4))
+sixteens k = in-bits 4 k
 
 pub pad-none : (n digits : ℕ) → n < 16 ^ digits → digits ≡ 0 → 0 ≡ n * 16 ^ (16 - digits)
 pad-none n digits h e =

@@ -1,24 +1,25 @@
 -- A.7's laws: every frame written reads back as itself; every accepted text, once its letters are raised, is what the writer gives.
 use mathlib.Core.Path.{_≡_, refl, ap, sym, subst, _∙_}
 use Prim.Native.Nat.{ℕ, zero, suc, _+_, _-_, _*_, _/_, _%_, _^_, _≤_, _<_}
-use mathlib.Core.Bool.{Bool, true, false, cond, not, _||_}
+use mathlib.Core.Bool.{Bool, true, false, not, _||_}
 use mathlib.Core.List.{List, [], _∷_, _++_, map-append}
 use native.Mathlib.Omega.{arith}
 use native.Mathlib.Nat.{pow-suc, div-add-mod'}
 use borrow.Author.Tests.{lt-ltb, le-ltb, lt-leb, eq-eqb, leb-false, ltb-false, not-false}
 use lib.Dec.{ltb, eqb, eqb→eq}
 use lib.ListN.{length, getD, take, drop, length-append, length-take, length-drop, take-append-drop, replicate, drop-of-length-le}
-use lib.Pow.{pow-add, shl-shr, shr-lt}
+use lib.Pow.{shl-shr, shr-lt}
 use lib.Seq.{append-snoc, take-at, drop-at, getD-at, drop-cons, drop-drop}
 use Rattle.headers.specs.Rules.{Answer, accepted, refused, refuse}
 use Rattle.headers.specs.Frames.{used}
+use Rattle.headers.specs.Laws.{was-accepted, neither}
 use Rattle.text.specs.Rules.{digit, hex}
 use Rattle.text.specs.Hex.{length-hex, first-bytes}
 use Rattle.text.specs.Table.{at}
-use Rattle.gridconnect.specs.Rules.{colon, letterX, letterN, semicolon, textOf, tooLong, write, value, areDigits, numberFrom, number, headerIn, dataIn, framed, shaped, Frame, frameIn, read, raised}
+use Rattle.gridconnect.specs.Rules.{colon, letterX, letterN, semicolon, textOf, tooLong, write, lengthOf, bufferOf, value, areDigits, numberFrom, number, headerIn, dataIn, framed, shaped, Frame, frameIn, read, raised}
 use Rattle.gridconnect.specs.Pieces.{front, pieces, length-text}
-use Rattle.gridconnect.specs.Digits.{are-append, are-one, number-append, number-one, sixteens}
-use Rattle.gridconnect.specs.Reading.{both, opened, length-data, last-decides, reads}
+use Rattle.gridconnect.specs.Digits.{are-append, are-one, number-append, number-one, in-bits, sixteens}
+use Rattle.gridconnect.specs.Reading.{both, fixed, length-data, last-decides, reads}
 use Rattle.gridconnect.specs.Raised.{raised-digits}
 
 -- WHAT AN ACCEPTED ANSWER TELLS
@@ -31,17 +32,6 @@ passed : {A : Type 0} (b : Bool) (n : ℕ) (a : Answer A) {x : A} → refuse b n
 unfolding isAccepted
 passed true n a e = absurd (let z : _≡_ {A = ℕ} 0 1 = ap isAccepted e in omega (arith, z))
 passed false n a e = (refl, e)
-
-accepted-is : {A : Type 0} {x y : A} → accepted x ≡ accepted y → x ≡ y
-accepted-is {A} {x} e = ap (λ (a : Answer A). valueOr x a) e
-  where
-    valueOr : A → Answer A → A
-    valueOr x (accepted y) = y
-    valueOr x (refused number) = x
-
-neither : (a b : Bool) → a || b ≡ false → (a ≡ false) × (b ≡ false)
-neither true b e = absurd (let z : _≡_ {A = ℕ} 1 0 = ap (λ (x : Bool). cond x 1 0) e in omega (arith, z))
-neither false b e = (refl, e)
 
 -- DIGITS THAT ARE WRITTEN
 
@@ -63,12 +53,6 @@ hex-number (suc k) n h =
     let p : n < 16 ^ k * 16 = rw pow-suc at h in
     let v : value (digit (n % 16)) ≡ n % 16 = digit-value (n % 16) (omega arith) in
     rw (number-append, number-one, hex-number k (n / 16) (omega arith), v) (omega arith)
-
-bytes-in-bits : (k : ℕ) → 256 ^ k ≡ 2 ^ (8 * k)
-bytes-in-bits zero = refl
-bytes-in-bits (suc k) =
-    let e : 8 * suc k ≡ 8 * k + 8 = omega arith in
-    rw (pow-suc, bytes-in-bits k, e) (sym (pow-add 2 (8 * k) 8))
 
 last-of : (l : List ℕ) (b : ℕ) → getD (l ++ (b ∷ [])) (length (l ++ (b ∷ [])) - 1) 0 ≡ b
 last-of l b = getD-at l b [] 0 _ (omega (arith, length-append l (b ∷ [])))
@@ -130,7 +114,7 @@ module _ (header len bytes : ℕ) (few : len ≤ 8) where
     used-kept =
         let e : 4 * (16 - 2 * len) ≡ 64 - 8 * len = omega arith in
         let f : 8 * (8 - len) ≡ 64 - 8 * len = omega arith in
-        rw (sixteens (16 - 2 * len), e, bytes-in-bits (8 - len), f)
+        rw (sixteens (16 - 2 * len), e, in-bits 8 (8 - len), f)
         (omega (arith, div-add-mod' bytes (2 ^ (64 - 8 * len))))
 
     text-read : read text ≡ accepted (record { header = header; len = len; bytes = used len bytes })
@@ -152,17 +136,29 @@ pub written-read : (room header len bytes : ℕ) {text : List ℕ} → bytes < 2
     → read text ≡ accepted (record { header = header; len = len; bytes = used len bytes })
 written-read room header len bytes short e =
     let p = passed (tooLong header || ltb 8 len) 9 _ e in
-    let q = passed (ltb room (length (textOf header len bytes))) 17 _ (p .1) in
+    let q = was-accepted (ltb room (length (textOf header len bytes))) 17 _ _ (p .1) in
     let r = neither (tooLong header) (ltb 8 len) (p .0) in
-    subst (λ (t : List ℕ). read t ≡ accepted (record { header = header; len = len; bytes = used len bytes })) (accepted-is (q .1))
+    subst (λ (t : List ℕ). read t ≡ accepted (record { header = header; len = len; bytes = used len bytes })) (q .1)
     (text-read header len bytes (ltb-false 8 len (r .1)) (leb-false (2 ^ 29) header (r .0)) short)
+
+-- So of as many bytes of a buffer as the writer answers.
+pub buffer-read : (before : List ℕ) (header len bytes : ℕ) {n : ℕ} → bytes < 2 ^ 64 → lengthOf (write (length before) header len bytes) ≡ accepted n
+    → read (take n (bufferOf (write (length before) header len bytes) before)) ≡ accepted (record { header = header; len = len; bytes = used len bytes })
+unfolding isAccepted
+buffer-read before header len bytes {n} short e = go (write (length before) header len bytes) refl e
+  where
+    go : (a : Answer (List ℕ)) → write (length before) header len bytes ≡ a → lengthOf a ≡ accepted n
+        → read (take n (bufferOf a before)) ≡ accepted (record { header = header; len = len; bytes = used len bytes })
+    go (accepted text) w l =
+        ap read (take-at text (drop (length text) before) n (was-accepted false 0 (length text) n l .1)) ∙ written-read (length before) header len bytes short w
+    go (refused k) w l = absurd (let z : _≡_ {A = ℕ} 0 1 = ap isAccepted l in omega (arith, z))
 
 -- A TEXT THAT IS READ: it is its parts.
 
 module _ (t : List ℕ) (e : framed t ≡ true) where
   whole : t ≡ colon ∷ letterX ∷ (headerIn t ++ letterN ∷ (dataIn t ++ semicolon ∷ []))
   whole =
-      let o = opened t e in
+      let o = fixed t e in
       drop-cons t 0 0 (omega (arith, o .long))
       ∙ ap (λ (b : ℕ). b ∷ drop 1 t) (o .first)
       ∙ ap (λ (l : List ℕ). colon ∷ l) (drop-cons t 1 0 (omega (arith, o .long)) ∙ ap (λ (b : ℕ). b ∷ drop 2 t) (o .second))
@@ -170,7 +166,7 @@ module _ (t : List ℕ) (e : framed t ≡ true) where
     where
       end : drop (length t - 12) (drop 11 t) ≡ semicolon ∷ []
       end =
-          let o = opened t e in
+          let o = fixed t e in
           let k : 11 + (length t - 12) ≡ length t - 1 = omega (arith, o .long) in
           drop-drop (length t - 12) 11 t
           ∙ ap (λ (n : ℕ). drop n t) k
@@ -180,24 +176,24 @@ module _ (t : List ℕ) (e : framed t ≡ true) where
 
       rest : drop 8 (drop 2 t) ≡ letterN ∷ (dataIn t ++ semicolon ∷ [])
       rest =
-          let o = opened t e in
+          let o = fixed t e in
           drop-drop 8 2 t
           ∙ drop-cons t 10 0 (omega (arith, o .long))
           ∙ ap (λ (b : ℕ). b ∷ drop 11 t) (o .middle)
           ∙ ap (λ (l : List ℕ). letterN ∷ l) (sym (take-append-drop (length t - 12) (drop 11 t)) ∙ ap (λ (l : List ℕ). dataIn t ++ l) end)
 
   header-long : length (headerIn t) ≡ 8
-  header-long = length-take 8 (drop 2 t) ∙ omega (arith, length-drop 2 t, opened t e .long)
+  header-long = length-take 8 (drop 2 t) ∙ omega (arith, length-drop 2 t, fixed t e .long)
 
   -- Its length in data bytes.
   abbrev len : ℕ
   len = length (dataIn t) / 2
 
   data-long : length (dataIn t) ≡ 2 * len
-  data-long = omega (arith, length-data t e, opened t e .even, opened t e .long)
+  data-long = omega (arith, length-data t e, fixed t e .even, fixed t e .long)
 
   few : len ≤ 8
-  few = omega (arith, length-data t e, opened t e .short)
+  few = omega (arith, length-data t e, fixed t e .short)
 
   module _ (hs : areDigits (headerIn t) ≡ true) (ds : areDigits (dataIn t) ≡ true) where
     raised-header : raised (headerIn t) ≡ hex 8 (number (headerIn t))
@@ -223,7 +219,7 @@ module _ (t : List ℕ) (e : framed t ≡ true) where
         → write room (frameIn t .header) (frameIn t .len) (frameIn t .bytes) ≡ accepted (raised t)
     rewritten room narrow h =
         let k : length (textOf (frameIn t .header) (frameIn t .len) (frameIn t .bytes)) ≡ 12 + 2 * len = length-text (frameIn t .header) len (frameIn t .bytes) few in
-        let r : 12 + 2 * len ≤ room = omega (arith, data-long, length-data t e, opened t e .long, h) in
+        let r : 12 + 2 * len ≤ room = omega (arith, data-long, length-data t e, fixed t e .long, h) in
         rw (lt-leb (2 ^ 29) (number (headerIn t)) narrow, le-ltb 8 len few, k, le-ltb room (12 + 2 * len) r) (ap accepted (sym raised-text))
 
 -- Every accepted text, once its letters are raised, is what the writer gives for the frame that was read, where there is room for it.
@@ -231,9 +227,9 @@ pub read-written : (t : List ℕ) {f : Frame} → read t ≡ accepted f → (roo
     → write room (f .header) (f .len) (f .bytes) ≡ accepted (raised t)
 unfolding read
 read-written t e room h =
-    let p = passed (not (shaped t) || tooLong (number (headerIn t))) 16 _ e in
+    let p = was-accepted (not (shaped t) || tooLong (number (headerIn t))) 16 _ _ e in
     let q = neither (not (shaped t)) (tooLong (number (headerIn t))) (p .0) in
     let s = both (framed t) _ (not-false (shaped t) (q .0)) in
     let d = both (areDigits (headerIn t)) (areDigits (dataIn t)) (s .1) in
-    subst (λ (f : Frame). write room (f .header) (f .len) (f .bytes) ≡ accepted (raised t)) (accepted-is (p .1))
+    subst (λ (f : Frame). write room (f .header) (f .len) (f .bytes) ≡ accepted (raised t)) (p .1)
     (rewritten t (s .0) (d .0) (d .1) room (leb-false (2 ^ 29) (number (headerIn t)) (q .1)) h)

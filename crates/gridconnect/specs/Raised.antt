@@ -1,23 +1,20 @@
 -- Laws of letters that are raised: digits in either case become the digits that are written.
 use mathlib.Core.Path.{_≡_, refl, ap, sym, _∙_}
 use Prim.Native.Nat.{ℕ, suc, _+_, _-_, _*_, _/_, _%_, _<_}
-use mathlib.Core.Bool.{Bool, true, false, cond, not, _&&_, _||_}
+use mathlib.Core.Bool.{Bool, true, false, cond, not, _||_}
 use mathlib.Core.List.{List, [], _∷_, _++_, append-nil}
 use native.Mathlib.Omega.{arith}
 use native.Mathlib.Nat.{add-zero, add-suc, suc-add, zero-add}
 use borrow.Author.Tests.{lt-ltb, ltb-true, ltb-false}
-use lib.Dec.{T, ltb, leb, eqb, eqb→eq}
+use lib.Dec.{T, ltb, eqb, eqb→eq}
 use lib.ListN.{length, replicate}
 use lib.Seq.{append-snoc}
 use Rattle.text.specs.Rules.{digit, hex}
 use Rattle.text.specs.Hex.{hex-suc}
 use Rattle.text.specs.Table.{at, every}
-use Rattle.gridconnect.specs.Rules.{value, areDigits, numberFrom, number, raised}
+use Rattle.gridconnect.specs.Rules.{value, areDigits, numberFrom, number, raise, raised}
 use Rattle.gridconnect.specs.Digits.{value-high}
 use Rattle.gridconnect.specs.Reading.{both}
-
-abbrev raise : ℕ → ℕ
-raise b = cond (leb 97 b && leb b 122) (b - 32) b
 
 -- a digit that is raised is the one that is written for its value
 abbrev raises : ℕ → ℕ → Bool

@@ -1,14 +1,14 @@
--- Laws of the reader: what it answers by the tests that it makes, and how long a text is of which only the digits are open.
+-- Laws of the reader: what it answers by the tests that it makes, and what is fixed in a text.
 use mathlib.Core.Path.{_≡_, refl, ap, sym, subst, _∙_}
 use Prim.Native.Nat.{ℕ, _+_, _-_, _*_, _/_, _%_, _^_, _≤_, _<_}
-use mathlib.Core.Bool.{Bool, true, false, cond, not, _&&_, _||_}
+use mathlib.Core.Bool.{Bool, true, false, cond, _&&_, and-false, or-true}
 use mathlib.Core.List.{List}
 use native.Mathlib.Omega.{arith}
 use borrow.Author.Tests.{le-leb, lt-leb, eq-eqb, ne-eqb, leb-true, eqb-true}
 use lib.Dec.{eqb}
 use lib.ListN.{length, take, drop, getD, length-take, length-drop}
-use Rattle.headers.specs.Rules.{accepted, refused, refuse}
-use Rattle.gridconnect.specs.Rules.{colon, letterX, letterN, semicolon, areDigits, number, headerIn, dataIn, framed, shaped, frameIn, read}
+use Rattle.headers.specs.Rules.{accepted, refused}
+use Rattle.gridconnect.specs.Rules.{colon, letterX, letterN, semicolon, areDigits, number, headerIn, dataIn, framed, frameIn, read}
 use Rattle.gridconnect.specs.Answers.{Stands}
 use Rattle.gridconnect.specs.Digits.{stand-for, stand-not}
 use Rattle.gridconnect.specs.declared.digits.Parsed as P
@@ -17,13 +17,9 @@ pub both : (a b : Bool) → a && b ≡ true → (a ≡ true) × (b ≡ true)
 both true b e = (refl, e)
 both false b e = absurd (let z : _≡_ {A = ℕ} 0 1 = ap (λ (x : Bool). cond x 1 0) e in omega (arith, z))
 
-none : (a : Bool) → a && false ≡ false
-none true = refl
-none false = refl
-
 module _ (t : List ℕ) where
-  -- What is the same in every text, in a text of which only the digits are open.
-  pub record Open : Type 0 where
+  -- What is fixed in a text: how long it can be, and the four bytes that are no digits.
+  pub record Fixed : Type 0 where
     pub long : 12 ≤ length t
     pub short : length t ≤ 28
     pub even : length t % 2 ≡ 0
@@ -32,9 +28,9 @@ module _ (t : List ℕ) where
     pub middle : getD t 10 0 ≡ letterN
     pub last : getD t (length t - 1) 0 ≡ semicolon
 
-  pub opened : framed t ≡ true → Open
+  pub fixed : framed t ≡ true → Fixed
   unfolding framed
-  opened e =
+  fixed e =
       let a = both _ _ e in
       let s = both _ _ (a .0) in
       let b = both _ _ (a .1) in
@@ -58,23 +54,23 @@ module _ (t : List ℕ) where
 
   pub too-many : 28 < length t → false ≡ framed t
   unfolding framed
-  too-many h = rw (lt-leb (length t) 28 h, none) refl
+  too-many h = simp (lt-leb (length t) 28 h, and-false)
 
   pub odd : (length t % 2 ≡ 0 → ⊥) → false ≡ framed t
   unfolding framed
-  odd h = rw (ne-eqb (length t % 2) 0 h, none) refl
+  odd h = simp (ne-eqb (length t % 2) 0 h, and-false)
 
   pub no-colon : (getD t 0 0 ≡ colon → ⊥) → false ≡ framed t
   unfolding framed
-  no-colon h = rw (ne-eqb (getD t 0 0) colon h, none, none) refl
+  no-colon h = simp (ne-eqb (getD t 0 0) colon h, and-false)
 
   pub no-X : (getD t 1 0 ≡ letterX → ⊥) → false ≡ framed t
   unfolding framed
-  no-X h = rw (ne-eqb (getD t 1 0) letterX h, none, none, none) refl
+  no-X h = simp (ne-eqb (getD t 1 0) letterX h, and-false)
 
   pub no-N : (getD t 10 0 ≡ letterN → ⊥) → false ≡ framed t
   unfolding framed
-  no-N h = rw (ne-eqb (getD t 10 0) letterN h, none, none, none, none) refl
+  no-N h = simp (ne-eqb (getD t 10 0) letterN h, and-false)
 
   -- and where nothing else is, the last byte decides.
   pub last-decides : 12 ≤ length t → length t ≤ 28 → length t % 2 ≡ 0 → getD t 0 0 ≡ colon → getD t 1 0 ≡ letterX → getD t 10 0 ≡ letterN
@@ -85,7 +81,7 @@ module _ (t : List ℕ) where
       refl
 
   pub length-data : framed t ≡ true → length (dataIn t) ≡ length t - 12
-  length-data e = length-take (length t - 12) (drop 11 t) ∙ omega (arith, length-drop 11 t, opened e .long)
+  length-data e = length-take (length t - 12) (drop 11 t) ∙ omega (arith, length-drop 11 t, fixed e .long)
 
   -- The part between `N` and `;` as it is cut out of a text, and what it means that it is read.
   abbrev pub cut : List ℕ
@@ -114,11 +110,7 @@ module _ (t : List ℕ) where
 
   pub wide : 2 ^ 29 ≤ number (headerIn t) → read t ≡ refused 16
   unfolding read
-  wide w = rw (le-leb (2 ^ 29) (number (headerIn t)) w) (either (not (shaped t)))
-    where
-      either : (b : Bool) → refuse (b || true) 16 (accepted (frameIn t)) ≡ refused 16
-      either true = refl
-      either false = refl
+  wide w = rw (le-leb (2 ^ 29) (number (headerIn t)) w, or-true) refl
 
   module _ (e : framed t ≡ true) where
     pub no-header : areDigits (headerIn t) ≡ false → read t ≡ refused 16

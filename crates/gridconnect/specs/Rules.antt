@@ -27,7 +27,7 @@ semicolon = 59
 unfoldable pub textOf : (header len bytes : ℕ) → List ℕ
 textOf header len bytes = colon ∷ letterX ∷ (hex 8 header ++ letterN ∷ (take (2 * len) (hex 16 bytes) ++ semicolon ∷ []))
 
--- A header has 29 bits.
+-- A header has 29 bits, all of which are kept, alias 0 included.
 abbrev pub tooLong : ℕ → Bool
 tooLong header = leb (2 ^ 29) header
 
@@ -109,5 +109,8 @@ unfoldable pub read : List ℕ → Answer Frame
 read t = refuse (not (shaped t) || tooLong (number (headerIn t))) 16 (accepted (frameIn t))
 
 -- A text with its letters raised.
+abbrev pub raise : ℕ → ℕ
+raise b = cond (between 97 122 b) (b - 32) b
+
 abbrev pub raised : List ℕ → List ℕ
-raised t = map (λ b. cond (between 97 122 b) (b - 32) b) t
+raised t = map raise t

@@ -2,7 +2,7 @@ use Prim.Native.Nat.{_-_, _≤_}
 use native.Mathlib.Omega.{arith}
 use lib.ListN.{length}
 use denote.Ref.{now}
-use Rattle.gridconnect.specs.Digits.{SoFar, none-yet, one-more, all-read, are-not, room}
+use Rattle.gridconnect.specs.Digits.{SoFar, none-yet, one-more, all-read, are-not, below-60-bits}
 use borrow.Author.Needs.{needs}
 use Rattle.gridconnect.proofs.digits.number.Statement.{statement}
 use Rattle.gridconnect.proofs.digits.number.Tie as tie
@@ -26,13 +26,13 @@ returns : tie.Need-returns Inv-loop μ-loop
 returns c = are-not (now (c .before .before .before .before .before .before .args .digits)) (c .before .before .before .before .loop .i) (c .before .before .before .loop-test .taken) (omega (arith, c .if1 .taken, c .before .value .ensures))
 
 mul-n : tie.Need-mul-n Inv-loop μ-loop
-mul-n c = search (needs, room {ds = (now (c .before .before .before .before .before .before .args .digits))} (omega (arith, c .before .before .before .loop-test .taken, c .before .before .before .before .before .before .pre .0)) (c .before .before .before .before .loop .inv .1))
+mul-n c = search (needs, below-60-bits {ds = (now (c .before .before .before .before .before .before .args .digits))} (omega (arith, c .before .before .before .loop-test .taken, c .before .before .before .before .before .before .pre .0)) (c .before .before .before .before .loop .inv .1))
 
 cast-n : tie.Need-cast-n Inv-loop μ-loop
 cast-n c = search needs
 
 add-n : tie.Need-add-n Inv-loop μ-loop
-add-n c = search (needs, room {ds = (now (c .before .before .before .before .before .before .args .digits))} (omega (arith, c .before .before .before .loop-test .taken, c .before .before .before .before .before .before .pre .0)) (c .before .before .before .before .loop .inv .1))
+add-n c = search (needs, below-60-bits {ds = (now (c .before .before .before .before .before .before .args .digits))} (omega (arith, c .before .before .before .loop-test .taken, c .before .before .before .before .before .before .pre .0)) (c .before .before .before .before .loop .inv .1))
 
 add-i : tie.Need-add-i Inv-loop μ-loop
 add-i c = search needs

@@ -8,8 +8,8 @@ use Rattle.gridconnect.proofs.writer.write.Tie as tie
 pub write-spec : {M : Type 1} → statement M
 write-spec =
     tie.close (tie.spec
-    (λ c. long-header (c .before .before .args .header) (c .before .before .args .len) _ _ (c .if1 .taken))
-    (λ c. long-data (c .before .before .before .args .header) (c .before .before .before .args .len) _ _ (omega (arith, c .before .if1 .left)) (c .if2 .taken))
+    (λ c. long-header (c .before .before .args .header) (c .before .before .args .len) _ _ (omega (arith, c .if1 .taken)))
+    (λ c. long-data (c .before .before .before .args .header) (c .before .before .before .args .len) _ _ (omega (arith, c .before .if1 .left)) (omega (arith, c .if2 .taken)))
     (λ c. search needs)
     (λ c. search needs)
     (λ c. short (c .before .before .before .before .args .header) (c .before .before .before .before .args .len) _ _ (omega (arith, c .before .before .if1 .left)) (c .before .if2 .left) (c .if3 .taken))
