@@ -10,6 +10,7 @@ ghost use Rattle.text.specs.Hex.{digitsBelow};
 ghost use Rattle.gridconnect.specs.Rules.{textOf};
 ghost use Rattle.gridconnect.specs.Answers.{Writes};
 
+// One byte at its place.
 fn store(text: &mut [u8], at: usize, b: u8)
     requires { ⌜ at < length (now text) ⌝ }
     ensures { λ _. ⌜ Wrote (sheet (now (text .entry)) at) (b ∷ []) (sheet (now (text .exit)) (at + 1)) ⌝ }

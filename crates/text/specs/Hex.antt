@@ -1,4 +1,4 @@
--- Laws of hexadecimal digits: byte by byte, how many, and the first of them.
+-- Laws of hexadecimal digits: in a table, byte by byte, how many, the first of them, and by shifts.
 use mathlib.Core.Path.{_≡_, refl, ap, sym, _∙_}
 use Prim.Native.Nat.{ℕ, zero, suc, _+_, _-_, _*_, _/_, _%_, _^_, _≤_, _<_}
 use mathlib.Core.List.{List, [], _∷_, _++_, append-assoc}
