@@ -8,6 +8,7 @@ use lib.Dec.{eqb, ltb}
 use lib.ListN.{length, getD, set, length-set, length-append}
 use lib.Seq.{getD-append-seam}
 use borrow.Author.Tests.{eq-eqb, eqb-true, ltb-true, ltb-false, le-leb, lt-leb}
+use Rattle.headers.specs.Laws.{both}
 use Rattle.alias_map.specs.Rules.{Answer, accepted, refused, after, aliasIn, idIn, room, hasAlias, hasId, hasEither, without, add, lookUp}
 use Rattle.alias_map.specs.Words.{entryFrom, entryAt, entriesIn, entriesOf}
 use Rattle.alias_map.specs.Answers.{Gives}
@@ -107,10 +108,6 @@ module _ (t : List ℕ) (n : ℕ) (c : Counted t n) where
 
 -- A NEW ENTRY
 
-both-true : (a b : Bool) → (a && b) ≡ true → (a ≡ true) × (b ≡ true)
-both-true true b q = (λ j. true, q)
-both-true false b q = absurd (false≢true q)
-
 same-entry : (x y : Entry) → x .alias .0 ≡ y .alias .0 → x .id ≡ y .id → x ≡ y
 same-entry x y a b = λ j. record { alias = record { 0 = a j }; id = b j }
 
@@ -154,8 +151,8 @@ module _ (t : List ℕ) (n : ℕ) (c : Counted t n) (w : ℕ) (e : Entry) (of-wo
   pub there-last : i < room → newest ≡ true → Gives t (add es (entryFrom w)) Accepted t
   unfolding without
   there-last h q =
-      let a = both-true (eqb (i + 1) n) (hasAlias (e .alias .0) (entryAt t i) && hasId (e .id) (entryAt t i)) q in
-      let b = both-true (hasAlias (e .alias .0) (entryAt t i)) (hasId (e .id) (entryAt t i)) (a .1) in
+      let a = both (eqb (i + 1) n) (hasAlias (e .alias .0) (entryAt t i) && hasId (e .id) (entryAt t i)) q in
+      let b = both (hasAlias (e .alias .0) (entryAt t i)) (hasId (e .id) (entryAt t i)) (a .1) in
       let last : i + 1 ≡ n = eqb-true (i + 1) n (a .0) in
       let is : entryAt t i ≡ e = same-entry (entryAt t i) e (eqb-true (entryAt t i .alias .0) (e .alias .0) (b .0)) (eqb-true (entryAt t i .id) (e .id) (b .1)) in
       let ends : es ≡ entriesIn i t ++ entryAt t i ∷ [] =

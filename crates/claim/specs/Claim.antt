@@ -47,10 +47,11 @@ use Rattle.segment_rules.specs.Rules.{
 }
 use Rattle.segment_rules.specs.Limits.{InLimit}
 use Rattle.segment_rules.specs.LimitLaws.{out-any, limit-by, limit-passes, limit-more, limit-test, test-limit, old-at, old-none}
+use Rattle.headers.specs.Laws.{both}
 use Rattle.table.specs.Words.{Cell, frameOf, nodeAt, inbox, placeOf, agesOf, cellAt, lateOf, view, viewAges, Fresh}
 use Rattle.table.specs.WordLaws.{view-at}
 use Rattle.table.specs.ClockLaws.{around-step, old-around}
-use Rattle.claim.specs.Single.{both, single, one-meaning}
+use Rattle.claim.specs.Single.{single, one-meaning}
 use Rattle.claim.specs.NodeIds.{apart-run}
 use Rattle.table.specs.Promise.{around, allAround, OldestFirst, bound, SoundWords, Done, Does}
 

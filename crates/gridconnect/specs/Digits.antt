@@ -7,28 +7,26 @@ use native.Mathlib.Omega.{arith}
 use native.Mathlib.Nat.{zero-mul, mul-zero, mul-suc, pow-zero, pow-suc, pow-le-pow-right, lt-of-lt-of-le}
 use native.Mathlib.Numerals.{add-one}
 use borrow.Author.Tests.{lt-ltb, le-ltb, le-leb, lt-leb}
-use lib.Dec.{ltb, eqb, eqb→eq}
+use lib.Dec.{ltb}
 use lib.ListN.{length, getD, take}
 use lib.Pow.{pow-add, shl-exact}
 use lib.Seq.{take-suc, take-all, split-at}
-use Rattle.text.specs.Table.{at}
+use Rattle.text.specs.Table.{tableOf, table-at}
 use Rattle.gridconnect.specs.Rules.{value, areDigits, numberFrom, number}
 use Rattle.gridconnect.specs.Answers.{Stands}
 use Rattle.gridconnect.specs.declared.digits.Parsed as P
 
--- THE VALUES OF BYTES from `0` on, one after another, in a table.
-unfoldable pub valuesBelow : ℕ → List ℕ
-valuesBelow zero = []
-valuesBelow (suc n) = valuesBelow n ++ value (48 + n) ∷ []
+-- THE VALUES OF BYTES from `0` to `f`, one after another.
+abbrev fromZero : ℕ → ℕ
+fromZero n = value (48 + n)
 
-value-at : (n : ℕ) → n < 55 → getD (valuesBelow 55) n 0 ≡ value (48 + n)
-unfolding valuesBelow value
-value-at n h = eqb→eq _ _ (at (λ k x. eqb x (value (48 + k))) (valuesBelow 55) tt n h)
+abbrev pub valueTable : List ℕ
+valueTable = tableOf fromZero 55
 
-pub value-from : (b : ℕ) → 48 ≤ b → b ≤ 102 → getD (valuesBelow 55) (b - 48) 0 ≡ value b
+pub value-from : (b : ℕ) → 48 ≤ b → b ≤ 102 → getD valueTable (b - 48) 0 ≡ value b
 value-from b low high =
     let e : 48 + (b - 48) ≡ b = omega arith in
-    value-at (b - 48) (omega arith) ∙ ap value e
+    table-at fromZero 55 (b - 48) (omega arith) ∙ ap value e
 
 pub value-low : (b : ℕ) → b < 48 → 16 ≡ value b
 unfolding value
@@ -99,11 +97,8 @@ all-read ds i {n} e p = (rw whole at (p .are), (p .is ∙ ap number whole, subst
     whole = take-all i ds (omega (arith, e))
 
 -- What a match on the answer tells.
-pub stand-for : (ds : List ℕ) {r : P.Parsed} {n : ℕ} → r ≡ P.the-variants.Number n → Stands r ds → Stands (P.the-variants.Number n) ds
-stand-for ds e p = subst (λ (r : P.Parsed). Stands r ds) e p
-
-pub stand-not : (ds : List ℕ) {r : P.Parsed} → r ≡ P.the-variants.NotDigits → Stands r ds → areDigits ds ≡ false
-stand-not ds e p = subst (λ (r : P.Parsed). Stands r ds) e p
+pub stands-as : (ds : List ℕ) {r s : P.Parsed} → r ≡ s → Stands r ds → Stands s ds
+stands-as ds e p = subst (λ (r : P.Parsed). Stands r ds) e p
 
 -- With fewer than 16 of them, one more fits into 64 bits.
 pub below-60-bits : {ds : List ℕ} {n i : ℕ} → i < 16 → SoFar ds n i → n < 2 ^ 60
@@ -116,9 +111,6 @@ pub in-bits : (b k : ℕ) → (2 ^ b) ^ k ≡ 2 ^ (b * k)
 in-bits b zero = rw (mul-zero, pow-zero) refl
 in-bits b (suc k) = rw (pow-suc, in-bits b k, mul-suc) (sym (pow-add 2 (b * k) b))
 
-pub sixteens : (k : ℕ) → 16 ^ k ≡ 2 ^ (4 * k)
-sixteens k = in-bits 4 k
-
 pub pad-none : (n digits : ℕ) → n < 16 ^ digits → digits ≡ 0 → 0 ≡ n * 16 ^ (16 - digits)
 pad-none n digits h e =
     let z : n ≡ 0 = omega (arith, subst (λ (k : ℕ). n < 16 ^ k) e h) in
@@ -127,4 +119,4 @@ pad-none n digits h e =
 pub pad-shift : (n digits : ℕ) → digits ≤ 16 → n < 16 ^ digits → n * 2 ^ (64 - 4 * digits) % 2 ^ 64 ≡ n * 16 ^ (16 - digits)
 pad-shift n digits few h =
     let e : 64 - 4 * digits ≡ 4 * (16 - digits) = omega arith in
-    shl-exact (4 * digits) (64 - 4 * digits) 64 (rw (sixteens digits) at h) (omega arith) ∙ rw (e, sixteens (16 - digits)) refl
+    shl-exact (4 * digits) (64 - 4 * digits) 64 (rw (in-bits 4 digits) at h) (omega arith) ∙ rw (e, in-bits 4 (16 - digits)) refl

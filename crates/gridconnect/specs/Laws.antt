@@ -1,43 +1,32 @@
 -- A.7's laws: every frame written reads back as itself; every accepted text, once its letters are raised, is what the writer gives.
 use mathlib.Core.Path.{_≡_, refl, ap, sym, subst, _∙_}
 use Prim.Native.Nat.{ℕ, zero, suc, _+_, _-_, _*_, _/_, _%_, _^_, _≤_, _<_}
-use mathlib.Core.Bool.{Bool, true, false, not, _||_}
+use mathlib.Core.Bool.{true, false, not, _||_}
 use mathlib.Core.List.{List, [], _∷_, _++_, map-append}
 use native.Mathlib.Omega.{arith}
 use native.Mathlib.Nat.{pow-suc, div-add-mod'}
 use borrow.Author.Tests.{lt-ltb, le-ltb, lt-leb, eq-eqb, leb-false, ltb-false, not-false}
 use lib.Dec.{ltb, eqb, eqb→eq}
-use lib.ListN.{length, getD, take, drop, length-append, length-take, length-drop, take-append-drop, replicate, drop-of-length-le}
+use lib.ListN.{length, getD, take, drop, length-append, length-take, length-drop, take-append-drop, drop-of-length-le}
 use lib.Pow.{shl-shr, shr-lt}
 use lib.Seq.{append-snoc, take-at, drop-at, getD-at, drop-cons, drop-drop}
-use Rattle.headers.specs.Rules.{Answer, accepted, refused, refuse}
+use Rattle.headers.specs.Rules.{Answer, accepted, refused}
 use Rattle.headers.specs.Frames.{used}
-use Rattle.headers.specs.Laws.{was-accepted, neither}
+use Rattle.headers.specs.Laws.{not-accepted, passed, was-accepted, neither, both}
 use Rattle.text.specs.Rules.{digit, hex}
 use Rattle.text.specs.Hex.{length-hex, first-bytes}
-use Rattle.text.specs.Table.{at}
+use Rattle.text.specs.Table.{below}
 use Rattle.gridconnect.specs.Rules.{colon, letterX, letterN, semicolon, textOf, tooLong, write, lengthOf, bufferOf, value, areDigits, numberFrom, number, headerIn, dataIn, framed, shaped, Frame, frameIn, read, raised}
 use Rattle.gridconnect.specs.Pieces.{front, pieces, length-text}
-use Rattle.gridconnect.specs.Digits.{are-append, are-one, number-append, number-one, in-bits, sixteens}
-use Rattle.gridconnect.specs.Reading.{both, fixed, length-data, last-decides, reads}
+use Rattle.gridconnect.specs.Digits.{are-append, are-one, number-append, number-one, in-bits}
+use Rattle.gridconnect.specs.Reading.{fixed, length-data, last-decides, reads}
 use Rattle.gridconnect.specs.Raised.{raised-digits}
-
--- WHAT AN ACCEPTED ANSWER TELLS
-
-isAccepted : {A : Type 0} → Answer A → ℕ
-isAccepted (accepted x) = 1
-isAccepted (refused number) = 0
-
-passed : {A : Type 0} (b : Bool) (n : ℕ) (a : Answer A) {x : A} → refuse b n a ≡ accepted x → (b ≡ false) × (a ≡ accepted x)
-unfolding isAccepted
-passed true n a e = absurd (let z : _≡_ {A = ℕ} 0 1 = ap isAccepted e in omega (arith, z))
-passed false n a e = (refl, e)
 
 -- DIGITS THAT ARE WRITTEN
 
 digit-value : (n : ℕ) → n < 16 → value (digit n) ≡ n
 unfolding value digit
-digit-value n h = eqb→eq (value (digit n)) n (at (λ k x. eqb (value (digit k)) k) (replicate 16 0) tt n h)
+digit-value n h = eqb→eq (value (digit n)) n (below (λ k. eqb (value (digit k)) k) 16 n tt h)
 
 hex-are : (k n : ℕ) → areDigits (hex k n) ≡ true
 unfolding hex areDigits
@@ -107,14 +96,14 @@ module _ (header len bytes : ℕ) (few : len ≤ 8) where
     number-kept =
         let e : 4 * (2 * len) + (64 - 8 * len) ≡ 64 = omega arith in
         rw (digits-kept)
-        (hex-number (2 * len) kept (rw (sixteens (2 * len)) (shr-lt (4 * (2 * len)) (64 - 8 * len) (rw e short))))
+        (hex-number (2 * len) kept (rw (in-bits 4 (2 * len)) (shr-lt (4 * (2 * len)) (64 - 8 * len) (rw e short))))
 
     used-kept : kept * 16 ^ (16 - 2 * len) ≡ used len bytes
     unfolding used
     used-kept =
         let e : 4 * (16 - 2 * len) ≡ 64 - 8 * len = omega arith in
         let f : 8 * (8 - len) ≡ 64 - 8 * len = omega arith in
-        rw (sixteens (16 - 2 * len), e, in-bits 8 (8 - len), f)
+        rw (in-bits 4 (16 - 2 * len), e, in-bits 8 (8 - len), f)
         (omega (arith, div-add-mod' bytes (2 ^ (64 - 8 * len))))
 
     text-read : read text ≡ accepted (record { header = header; len = len; bytes = used len bytes })
@@ -135,7 +124,7 @@ module _ (header len bytes : ℕ) (few : len ≤ 8) where
 pub written-read : (room header len bytes : ℕ) {text : List ℕ} → bytes < 2 ^ 64 → write room header len bytes ≡ accepted text
     → read text ≡ accepted (record { header = header; len = len; bytes = used len bytes })
 written-read room header len bytes short e =
-    let p = passed (tooLong header || ltb 8 len) 9 _ e in
+    let p = passed (tooLong header || ltb 8 len) 9 _ _ e in
     let q = was-accepted (ltb room (length (textOf header len bytes))) 17 _ _ (p .1) in
     let r = neither (tooLong header) (ltb 8 len) (p .0) in
     subst (λ (t : List ℕ). read t ≡ accepted (record { header = header; len = len; bytes = used len bytes })) (q .1)
@@ -144,14 +133,13 @@ written-read room header len bytes short e =
 -- So of as many bytes of a buffer as the writer answers.
 pub buffer-read : (before : List ℕ) (header len bytes : ℕ) {n : ℕ} → bytes < 2 ^ 64 → lengthOf (write (length before) header len bytes) ≡ accepted n
     → read (take n (bufferOf (write (length before) header len bytes) before)) ≡ accepted (record { header = header; len = len; bytes = used len bytes })
-unfolding isAccepted
 buffer-read before header len bytes {n} short e = go (write (length before) header len bytes) refl e
   where
     go : (a : Answer (List ℕ)) → write (length before) header len bytes ≡ a → lengthOf a ≡ accepted n
         → read (take n (bufferOf a before)) ≡ accepted (record { header = header; len = len; bytes = used len bytes })
     go (accepted text) w l =
         ap read (take-at text (drop (length text) before) n (was-accepted false 0 (length text) n l .1)) ∙ written-read (length before) header len bytes short w
-    go (refused k) w l = absurd (let z : _≡_ {A = ℕ} 0 1 = ap isAccepted l in omega (arith, z))
+    go (refused k) w l = absurd (not-accepted k n l)
 
 -- A TEXT THAT IS READ: it is its parts.
 
@@ -204,7 +192,7 @@ module _ (t : List ℕ) (e : framed t ≡ true) where
         let k : 4 * (16 - length (dataIn t)) ≡ 64 - 8 * len = omega (arith, data-long) in
         raised-digits (dataIn t) ds
         ∙ ap (λ (n : ℕ). hex n (number (dataIn t))) data-long
-        ∙ sym (first-bytes len (frameIn t .bytes) few ∙ ap (hex (2 * len)) (rw (sixteens (16 - length (dataIn t)), k) (shl-shr (number (dataIn t)) (64 - 8 * len))))
+        ∙ sym (first-bytes len (frameIn t .bytes) few ∙ ap (hex (2 * len)) (rw (in-bits 4 (16 - length (dataIn t)), k) (shl-shr (number (dataIn t)) (64 - 8 * len))))
 
     raised-text : raised t ≡ textOf (frameIn t .header) (frameIn t .len) (frameIn t .bytes)
     unfolding textOf

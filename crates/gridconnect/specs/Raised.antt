@@ -7,20 +7,20 @@ use native.Mathlib.Omega.{arith}
 use native.Mathlib.Nat.{add-zero, add-suc, suc-add, zero-add}
 use borrow.Author.Tests.{lt-ltb, ltb-true, ltb-false}
 use lib.Dec.{T, ltb, eqb, eqb→eq}
-use lib.ListN.{length, replicate}
+use lib.ListN.{length}
 use lib.Seq.{append-snoc}
+use Rattle.headers.specs.Laws.{both}
 use Rattle.text.specs.Rules.{digit, hex}
 use Rattle.text.specs.Hex.{hex-suc}
-use Rattle.text.specs.Table.{at, every}
+use Rattle.text.specs.Table.{allBelow, below}
 use Rattle.gridconnect.specs.Rules.{value, areDigits, numberFrom, number, raise, raised}
 use Rattle.gridconnect.specs.Digits.{value-high}
-use Rattle.gridconnect.specs.Reading.{both}
 
 -- a digit that is raised is the one that is written for its value
-abbrev raises : ℕ → ℕ → Bool
-raises b x = not (ltb (value b) 16) || eqb (digit (value b)) (raise b)
+abbrev raises : ℕ → Bool
+raises b = not (ltb (value b) 16) || eqb (digit (value b)) (raise b)
 
-all-raise : T (every raises 0 (replicate 103 0))
+all-raise : T (allBelow raises 103)
 unfolding value digit
 all-raise = tt
 
@@ -32,7 +32,7 @@ raise-digit : (b : ℕ) → value b < 16 → digit (value b) ≡ raise b
 raise-digit b v = go (ltb b 103) refl
   where
     go : (s : Bool) → ltb b 103 ≡ s → digit (value b) ≡ raise b
-    go true e = eqb→eq (digit (value b)) (raise b) (met (ltb (value b) 16) (eqb (digit (value b)) (raise b)) (lt-ltb (value b) 16 v) (at raises (replicate 103 0) all-raise b (ltb-true b 103 e)))
+    go true e = eqb→eq (digit (value b)) (raise b) (met (ltb (value b) 16) (eqb (digit (value b)) (raise b)) (lt-ltb (value b) 16 v) (below raises 103 b all-raise (ltb-true b 103 e)))
     go false e = absurd (omega (arith, v, value-high b (ltb-false b 103 e)))
 
 digits-cons : (d : ℕ) (ds : List ℕ) → areDigits (d ∷ ds) ≡ true → (value d < 16) × (areDigits ds ≡ true)

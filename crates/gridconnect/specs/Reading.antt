@@ -1,21 +1,18 @@
 -- Laws of the reader: what it answers by the tests that it makes, and what is fixed in a text.
 use mathlib.Core.Path.{_≡_, refl, ap, sym, subst, _∙_}
 use Prim.Native.Nat.{ℕ, _+_, _-_, _*_, _/_, _%_, _^_, _≤_, _<_}
-use mathlib.Core.Bool.{Bool, true, false, cond, _&&_, and-false, or-true}
+use mathlib.Core.Bool.{true, false, and-false, or-true}
 use mathlib.Core.List.{List}
 use native.Mathlib.Omega.{arith}
 use borrow.Author.Tests.{le-leb, lt-leb, eq-eqb, ne-eqb, leb-true, eqb-true}
 use lib.Dec.{eqb}
 use lib.ListN.{length, take, drop, getD, length-take, length-drop}
 use Rattle.headers.specs.Rules.{accepted, refused}
+use Rattle.headers.specs.Laws.{both}
 use Rattle.gridconnect.specs.Rules.{colon, letterX, letterN, semicolon, areDigits, number, headerIn, dataIn, framed, frameIn, read}
 use Rattle.gridconnect.specs.Answers.{Stands}
-use Rattle.gridconnect.specs.Digits.{stand-for, stand-not}
+use Rattle.gridconnect.specs.Digits.{stands-as}
 use Rattle.gridconnect.specs.declared.digits.Parsed as P
-
-pub both : (a b : Bool) → a && b ≡ true → (a ≡ true) × (b ≡ true)
-both true b e = (refl, e)
-both false b e = absurd (let z : _≡_ {A = ℕ} 0 1 = ap (λ (x : Bool). cond x 1 0) e in omega (arith, z))
 
 module _ (t : List ℕ) where
   -- What is fixed in a text: how long it can be, and the four bytes that are no digits.
@@ -87,20 +84,16 @@ module _ (t : List ℕ) where
   abbrev pub cut : List ℕ
   cut = take (11 + (length t - 12) - 11) (drop 11 t)
 
-  data-part : cut ≡ dataIn t
-  data-part =
+  pub data-as : {r s : P.Parsed} → r ≡ s → Stands r cut → Stands s (dataIn t)
+  data-as {s = s} told p =
       let e : 11 + (length t - 12) - 11 ≡ length t - 12 = omega arith in
-      ap (λ (k : ℕ). take k (drop 11 t)) e
+      subst (λ (k : ℕ). Stands s (take k (drop 11 t))) e (stands-as cut told p)
 
   pub data-number : framed t ≡ true → {r : P.Parsed} {n : ℕ} → r ≡ P.the-variants.Number n → Stands r cut
       → (areDigits (dataIn t) ≡ true) × ((n ≡ number (dataIn t)) × (n < 16 ^ (length t - 12)))
-  data-number e {n = n} told p = (s .0, (s .1 .0, subst (λ (k : ℕ). n < 16 ^ k) (length-data e) (s .1 .1)))
-    where
-      s : Stands (P.the-variants.Number n) (dataIn t)
-      s = subst (λ (ds : List ℕ). Stands (P.the-variants.Number n) ds) data-part (stand-for cut told p)
-
-  pub data-not : {r : P.Parsed} → r ≡ P.the-variants.NotDigits → Stands r cut → areDigits (dataIn t) ≡ false
-  data-not told p = subst (λ (ds : List ℕ). areDigits ds ≡ false) data-part (stand-not cut told p)
+  data-number e {n = n} told p =
+      let s = data-as told p in
+      (s .0, (s .1 .0, subst (λ (k : ℕ). n < 16 ^ k) (length-data e) (s .1 .1)))
 
   -- WHAT IS ANSWERED
 

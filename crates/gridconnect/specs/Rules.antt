@@ -58,6 +58,7 @@ value b =
     (cond (between 97 102 b) (b - 87)
     16))
 
+-- Whether all of these are digits.
 unfoldable pub areDigits : List ℕ → Bool
 areDigits [] = true
 areDigits (b ∷ bs) = ltb (value b) 16 && areDigits bs
@@ -87,6 +88,7 @@ framed t =
     && (eqb (getD t 10 0) letterN
     && eqb (getD t (length t - 1) 0) semicolon))))
 
+-- The shape of a text: that, and digits in all other places.
 abbrev pub shaped : List ℕ → Bool
 shaped t = framed t && (areDigits (headerIn t) && areDigits (dataIn t))
 

@@ -4,7 +4,7 @@ ghost use Prim.Native.Nat.{_≤_};
 ghost use lib.ListN.{length};
 ghost use Rattle.gridconnect.specs.Rules.{value as valueOf};
 ghost use Rattle.gridconnect.specs.Answers.{Stands};
-ghost use Rattle.gridconnect.specs.Digits.{valuesBelow};
+ghost use Rattle.gridconnect.specs.Digits.{valueTable};
 
 pub enum Parsed {
     Number(u64),
@@ -13,7 +13,7 @@ pub enum Parsed {
 
 // The value of a byte as a digit, from a table of those from `0` to `f`; 16 where it is none.
 fn value(values: &[u8; 55], b: u8) -> u8
-    requires { ⌜ now values ≡ valuesBelow 55 ⌝ }
+    requires { ⌜ now values ≡ valueTable ⌝ }
     ensures { λ r. ⌜ r ≡ valueOf b ⌝ }
 {
     if b < b'0' {
@@ -27,7 +27,7 @@ fn value(values: &[u8; 55], b: u8) -> u8
 
 // The number that up to 16 digits stand for, the highest first, by that table.
 pub(crate) fn number(digits: &[u8], values: &[u8; 55]) -> Parsed
-    requires { ⌜ (length (now digits) ≤ 16) × (now values ≡ valuesBelow 55) ⌝ }
+    requires { ⌜ (length (now digits) ≤ 16) × (now values ≡ valueTable) ⌝ }
     ensures { λ r. ⌜ Stands r (now (digits .entry)) ⌝ }
 {
     let mut n = 0u64;

@@ -9,7 +9,7 @@ ghost use mathlib.Core.Bool.{true};
 ghost use Prim.Native.Nat.{_-_, _*_, _^_, _≤_, _<_};
 ghost use Rattle.gridconnect.specs.Rules.{framed, read};
 ghost use Rattle.gridconnect.specs.Answers.{readAs};
-ghost use Rattle.gridconnect.specs.Digits.{valuesBelow};
+ghost use Rattle.gridconnect.specs.Digits.{valueTable};
 
 // Whether all but the digits is as it has to be.
 fn is_framed(text: &[u8]) -> bool
@@ -50,7 +50,7 @@ fn padded(n: u64, digits: usize) -> u64
 
 // The frame of a text of which only the digits are still to be read.
 fn read_digits(text: &[u8], values: &[u8; 55]) -> Read
-    requires { ⌜ (framed (now text) ≡ true) × (now values ≡ valuesBelow 55) ⌝ }
+    requires { ⌜ (framed (now text) ≡ true) × (now values ≡ valueTable) ⌝ }
     ensures { λ r. ⌜ readAs r ≡ read (now (text .entry)) ⌝ }
 {
     let header = match number(&text[2..10], values) {

@@ -6,7 +6,7 @@ ghost use mathlib.Core.List.{[], _∷_};
 ghost use Prim.Native.Nat.{_+_, _*_, _%_, _≤_, _<_};
 ghost use lib.ListN.{length, take};
 ghost use Rattle.text.specs.Rules.{digit, hex, sheet, Wrote};
-ghost use Rattle.text.specs.Hex.{digitsBelow};
+ghost use Rattle.text.specs.Hex.{digitTable};
 ghost use Rattle.gridconnect.specs.Rules.{textOf};
 ghost use Rattle.gridconnect.specs.Answers.{Writes};
 
@@ -20,7 +20,7 @@ fn store(text: &mut [u8], at: usize, b: u8)
 
 // The last digit of n, from a table of all digits.
 fn last_digit(digits: &[u8; 16], n: u64) -> u8
-    requires { ⌜ now digits ≡ digitsBelow 16 ⌝ }
+    requires { ⌜ now digits ≡ digitTable ⌝ }
     ensures { λ r. ⌜ r ≡ digit (n % 16) ⌝ }
 {
     digits[(n % 16) as usize]
@@ -28,7 +28,7 @@ fn last_digit(digits: &[u8; 16], n: u64) -> u8
 
 // The two digits of the last byte of n.
 fn store_byte(text: &mut [u8], at: usize, n: u64, digits: &[u8; 16])
-    requires { ⌜ (at + 2 ≤ length (now text)) × (now digits ≡ digitsBelow 16) ⌝ }
+    requires { ⌜ (at + 2 ≤ length (now text)) × (now digits ≡ digitTable) ⌝ }
     ensures { λ _. ⌜ Wrote (sheet (now (text .entry)) at) (hex 2 n) (sheet (now (text .exit)) (at + 2)) ⌝ }
 {
     let high = last_digit(digits, n / 16);
@@ -39,7 +39,7 @@ fn store_byte(text: &mut [u8], at: usize, n: u64, digits: &[u8; 16])
 
 // The eight digits of a header.
 fn store_header(text: &mut [u8], header: u64, digits: &[u8; 16])
-    requires { ⌜ (10 ≤ length (now text)) × (now digits ≡ digitsBelow 16) ⌝ }
+    requires { ⌜ (10 ≤ length (now text)) × (now digits ≡ digitTable) ⌝ }
     ensures { λ _. ⌜ Wrote (sheet (now (text .entry)) 2) (hex 8 header) (sheet (now (text .exit)) 10) ⌝ }
 {
     store_byte(text, 2, header / 0x100_0000, digits);
@@ -50,7 +50,7 @@ fn store_header(text: &mut [u8], header: u64, digits: &[u8; 16])
 
 // Two digits for each data byte, of which there are so many.
 fn store_data(text: &mut [u8], count: usize, bytes: u64, digits: &[u8; 16])
-    requires { ⌜ ((count ≤ 8) × (11 + 2 * count ≤ length (now text))) × (now digits ≡ digitsBelow 16) ⌝ }
+    requires { ⌜ ((count ≤ 8) × (11 + 2 * count ≤ length (now text))) × (now digits ≡ digitTable) ⌝ }
     ensures { λ _. ⌜ Wrote (sheet (now (text .entry)) 11) (take (2 * count) (hex 16 bytes)) (sheet (now (text .exit)) (11 + 2 * count)) ⌝ }
 {
     let mut i = 0;

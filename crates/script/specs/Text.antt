@@ -9,7 +9,7 @@ use lib.Dec.{eqb}
 use lib.ListN.{length, take, length-append, length-take}
 use lib.Seq.{take-all}
 use Rattle.text.specs.Rules.{hex, without, decimal, space}
-use Rattle.text.specs.Hex.{length-hex, take-hex}
+use Rattle.text.specs.Hex.{length-hex, first-digits}
 use Rattle.text.specs.Decimal.{digits-short}
 use Rattle.node.specs.Refusals.{TwoDigits}
 use Rattle.node.specs.Rules.{Answer, accepted, refused, Value, done, left}
@@ -28,9 +28,7 @@ module _ (len bytes : ℕ) where
     data-some = rw (ne-eqb len 0 some)
 
     pub data-short : len < 8 → space ++ hex (2 * len) (without (16 - 2 * len) bytes) ≡ dataText len bytes
-    data-short h =
-        let e : 2 * len + (16 - 2 * len) ≡ 16 = omega arith in
-        ap (λ (l : List ℕ). space ++ l) (sym (take-hex (2 * len) (16 - 2 * len) bytes) ∙ ap (λ (k : ℕ). take (2 * len) (hex k bytes)) e) ∙ sym data-some
+    data-short h = ap (λ (l : List ℕ). space ++ l) (sym (first-digits len bytes (omega arith))) ∙ sym data-some
 
     pub data-long : 8 ≤ len → space ++ hex 16 bytes ≡ dataText len bytes
     data-long h =

@@ -4,8 +4,8 @@ use mathlib.Core.Bool.{Bool, false}
 use Prim.Native.Nat.{ℕ, _<_}
 use lib.Dec.{leb}
 use borrow.Author.Tests.{leb-false}
+use Rattle.headers.specs.Laws.{not-accepted, passed}
 use Rattle.node.specs.Rules.{Answer, accepted, refused, Value}
-use Rattle.node.specs.Given.{not-accepted, passed}
 use Rattle.segment_rules.specs.Rules.{places, Segment, Act, one, thenRefuse, indexed, answerAt, idInUse, answer}
 
 -- the index

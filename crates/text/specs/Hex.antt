@@ -1,26 +1,18 @@
--- Laws of hexadecimal digits: in a table, byte by byte, how many, the first of them, and by shifts.
+-- Laws of hexadecimal digits: byte by byte, how many, the first of them, and by shifts.
 use mathlib.Core.Path.{_≡_, refl, ap, sym, _∙_}
 use Prim.Native.Nat.{ℕ, zero, suc, _+_, _-_, _*_, _/_, _%_, _^_, _≤_, _<_}
 use mathlib.Core.List.{List, [], _∷_, _++_, append-assoc}
 use native.Mathlib.Omega.{arith}
 use native.Mathlib.Nat.{add-zero, add-suc, div-one}
-use lib.ListN.{length, getD, take, length-append}
+use lib.ListN.{length, take, length-append}
 use lib.Pow.{shr-shr}
 use lib.Seq.{take-all, take-append-le}
-use lib.Dec.{eqb, eqb→eq}
 use Rattle.text.specs.Rules.{digit, hex, without}
-use Rattle.text.specs.Table.{at}
+use Rattle.text.specs.Table.{tableOf}
 
--- THE DIGITS ONE AFTER ANOTHER, in a table.
-unfoldable pub digitsBelow : ℕ → List ℕ
-digitsBelow zero = []
-digitsBelow (suc n) = digitsBelow n ++ digit n ∷ []
-
-pub digit-at : (n : ℕ) → n < 16 → getD (digitsBelow 16) n 0 ≡ digit n
-unfolding digitsBelow digit
-digit-at n h = eqb→eq _ _ (at (λ k d. eqb d (digit k)) (digitsBelow 16) tt n h)
-
--- DIGIT BY DIGIT
+-- The digits one after another.
+abbrev pub digitTable : List ℕ
+digitTable = tableOf digit 16
 
 pub hex-none : {k : ℕ} (n : ℕ) → k ≡ 0 → hex k n ≡ []
 unfolding hex
@@ -66,6 +58,12 @@ take-hex j (suc k) n =
     rw (add-suc j k, hex-suc (j + k) n)
     (take-append-le j (hex (j + k) (n / 16)) _ (omega (arith, length-hex (j + k) (n / 16))) ∙ take-hex j k (n / 16))
 
+-- Those of the first k bytes of eight.
+pub first-digits : (k n : ℕ) → k ≤ 8 → take (2 * k) (hex 16 n) ≡ hex (2 * k) (without (16 - 2 * k) n)
+first-digits k n h =
+    let e : 2 * k + (16 - 2 * k) ≡ 16 = omega arith in
+    ap (λ (j : ℕ). take (2 * k) (hex j n)) (sym e) ∙ take-hex (2 * k) (16 - 2 * k) n
+
 -- BY SHIFTS: a header's four bytes one after another, and each of the eight bytes of a frame's data.
 
 pub hex-word : (n : ℕ) → ((hex 2 (n / 0x1000000) ++ hex 2 (n / 0x10000)) ++ hex 2 (n / 0x100)) ++ hex 2 n ≡ hex 8 n
@@ -81,14 +79,10 @@ without-shift (suc k) n =
     let e : 4 * suc k ≡ 4 + 4 * k = omega arith in
     rw e (sym (shr-shr n 4 (4 * k)) ∙ without-shift k (n / 16))
 
--- The first k bytes of eight.
 pub first-bytes : (k n : ℕ) → k ≤ 8 → take (2 * k) (hex 16 n) ≡ hex (2 * k) (n / 2 ^ (64 - 8 * k))
 first-bytes k n h =
-    let e : 2 * k + (16 - 2 * k) ≡ 16 = omega arith in
     let f : 4 * (16 - 2 * k) ≡ 64 - 8 * k = omega arith in
-    ap (λ (j : ℕ). take (2 * k) (hex j n)) (sym e)
-    ∙ take-hex (2 * k) (16 - 2 * k) n
-    ∙ ap (hex (2 * k)) (sym (without-shift (16 - 2 * k) n) ∙ ap (λ (j : ℕ). n / 2 ^ j) f)
+    first-digits k n h ∙ ap (hex (2 * k)) (sym (without-shift (16 - 2 * k) n) ∙ ap (λ (j : ℕ). n / 2 ^ j) f)
 
 -- One byte more.
 pub next-byte : (i n : ℕ) → i < 8 → take (2 * i) (hex 16 n) ++ hex 2 (n / 2 ^ (56 - 8 * i)) ≡ take (2 * (i + 1)) (hex 16 n)

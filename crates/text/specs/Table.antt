@@ -1,27 +1,50 @@
--- A rule of a table, proved at all of its entries by one test, which is computed at one entry after another.
-use mathlib.Core.Path.{_∙_, subst, sym}
+-- Laws of a table, which has a function's values one after another; and of a test that is computed for all numbers below a bound.
+use mathlib.Core.Path.{_≡_, refl, ap, subst, _∙_}
 use mathlib.Core.Bool.{Bool, true, false, _&&_}
-use mathlib.Core.List.{List, [], _∷_}
-use Prim.Native.Nat.{ℕ, zero, suc, _+_, _<_}
-use native.Mathlib.Nat.{add-zero, zero-add, add-suc, suc-add, le-of-suc-le-suc, not-suc-le-zero}
-use lib.Dec.{T}
-use lib.ListN.{length, getD}
+use mathlib.Core.List.{List, [], _∷_, _++_}
+use Prim.Native.Nat.{ℕ, zero, suc, _<_}
+use native.Mathlib.Omega.{arith}
+use borrow.Author.Tests.{ltb-true, ltb-false}
+use lib.Dec.{T, ltb}
+use lib.ListN.{length, getD, length-append, List·getD-append}
+use lib.Seq.{getD-at}
 
--- the test holds of each entry and its place, counted from i
-abbrev pub every : (ℕ → ℕ → Bool) → ℕ → List ℕ → Bool
-every f i [] = true
-every f i (x ∷ xs) = f i x && every f (suc i) xs
+unfoldable pub tableOf : (ℕ → ℕ) → (n : ℕ) → List ℕ
+tableOf f zero = []
+tableOf f (suc n) = tableOf f n ++ f n ∷ []
 
-both : (a b : Bool) → T (a && b) → T a × T b
-both true b t = (tt, t)
-both false b t = absurd t
+length-table : (f : ℕ → ℕ) (n : ℕ) → length (tableOf f n) ≡ n
+unfolding tableOf
+length-table f zero = refl
+length-table f (suc n) = length-append (tableOf f n) (f n ∷ []) ∙ rw (length-table f n) (omega arith)
 
-from : (f : ℕ → ℕ → Bool) (xs : List ℕ) (i : ℕ) → T (every f i xs) → (k : ℕ) → k < length xs → T (f (i + k) (getD xs k 0))
-from f [] i t k h = absurd (not-suc-le-zero h)
-from f (x ∷ xs) i t zero h = subst (λ (m : ℕ). T (f m x)) (sym (add-zero i)) (both (f i x) (every f (suc i) xs) t .0)
-from f (x ∷ xs) i t (suc k) h =
-    subst (λ (m : ℕ). T (f m (getD xs k 0))) (suc-add i k ∙ sym (add-suc i k))
-    (from f xs (suc i) (both (f i x) (every f (suc i) xs) t .1) k (le-of-suc-le-suc h))
+pub table-at : (f : ℕ → ℕ) (n k : ℕ) → k < n → getD (tableOf f n) k 0 ≡ f k
+unfolding tableOf
+table-at f zero k h = absurd (omega (arith, h))
+table-at f (suc n) k h = go (table-at f n k) (ltb k n) refl
+  where
+    go : (k < n → getD (tableOf f n) k 0 ≡ f k) → (b : Bool) → ltb k n ≡ b → getD (tableOf f n ++ f n ∷ []) k 0 ≡ f k
+    go earlier true e =
+        let l : k < length (tableOf f n) = rw (length-table f n) (ltb-true k n e) in
+        List·getD-append (tableOf f n) (f n ∷ []) 0 k l ∙ earlier (ltb-true k n e)
+    go earlier false e =
+        let q : n ≡ k = omega (arith, h, ltb-false k n e) in
+        getD-at (tableOf f n) (f n) [] 0 k (length-table f n ∙ q) ∙ ap f q
 
-pub at : (f : ℕ → ℕ → Bool) (xs : List ℕ) → T (every f 0 xs) → (k : ℕ) → k < length xs → T (f k (getD xs k 0))
-at f xs t k h = subst (λ (m : ℕ). T (f m (getD xs k 0))) (zero-add k) (from f xs 0 t k h)
+abbrev pub allBelow : (ℕ → Bool) → (n : ℕ) → Bool
+allBelow f zero = true
+allBelow f (suc n) = f n && allBelow f n
+
+each : (a b : Bool) → T (a && b) → T a × T b
+each true b t = (tt, t)
+each false b t = absurd t
+
+pub below : (f : ℕ → Bool) (n k : ℕ) → T (allBelow f n) → k < n → T (f k)
+below f zero k t h = absurd (omega (arith, h))
+below f (suc n) k t h = go (below f n k (each (f n) (allBelow f n) t .1)) (ltb k n) refl
+  where
+    go : (k < n → T (f k)) → (b : Bool) → ltb k n ≡ b → T (f k)
+    go earlier true e = earlier (ltb-true k n e)
+    go earlier false e =
+        let q : n ≡ k = omega (arith, h, ltb-false k n e) in
+        subst (λ (m : ℕ). T (f m)) q (each (f n) (allBelow f n) t .0)

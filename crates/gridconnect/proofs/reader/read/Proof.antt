@@ -2,13 +2,13 @@ use mathlib.Core.Path.{refl, sym, _∙_}
 use denote.Ref.{now}
 use borrow.Author.Needs.{needs}
 use Rattle.gridconnect.specs.Rules.{value}
-use Rattle.gridconnect.specs.Digits.{valuesBelow}
+use Rattle.text.specs.Table.{tableOf}
 use Rattle.gridconnect.specs.Reading.{unframed}
 use Rattle.gridconnect.proofs.reader.read.Statement.{statement}
 use Rattle.gridconnect.proofs.reader.read.Tie as tie
 
 pub read-spec : {M : Type 1} → statement M
-unfolding valuesBelow value
+unfolding tableOf value
 read-spec =
     tie.close (tie.spec
     (λ c κs. search needs)

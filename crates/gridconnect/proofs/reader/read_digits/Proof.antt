@@ -5,8 +5,8 @@ use lib.ListN.{length, drop, length-take}
 use denote.Ref.{now}
 use borrow.Author.Needs.{needs}
 use Rattle.gridconnect.specs.Rules.{headerIn}
-use Rattle.gridconnect.specs.Digits.{stand-for, stand-not}
-use Rattle.gridconnect.specs.Reading.{fixed, data-number, data-not, wide, no-header, no-data, reads-as}
+use Rattle.gridconnect.specs.Digits.{stands-as}
+use Rattle.gridconnect.specs.Reading.{fixed, data-number, data-as, wide, no-header, no-data, reads-as}
 use Rattle.gridconnect.proofs.reader.read_digits.Statement.{statement}
 use Rattle.gridconnect.proofs.reader.read_digits.Tie as tie
 
@@ -19,8 +19,8 @@ read-digits-spec =
     (λ c κs. search needs)
     (λ c. search needs)
     (λ c. search needs)
-    (λ c. sym (no-header (now (c .before .before .before .before .before .args .text)) (c .before .before .before .before .before .pre .0) (stand-not (headerIn (now (c .before .before .before .before .before .args .text))) (c .enum-told .given .1) (c .before .before .number .ensures))))
-    (λ c. sym (wide (now (c .before .before .before .before .before .before .before .args .text)) (omega (arith, c .if1 .taken, stand-for (headerIn (now (c .before .before .before .before .before .before .before .args .text))) (c .before .before .n .given .1) (c .before .before .before .before .number .ensures) .1 .0))))
+    (λ c. sym (no-header (now (c .before .before .before .before .before .args .text)) (c .before .before .before .before .before .pre .0) (stands-as (headerIn (now (c .before .before .before .before .before .args .text))) (c .enum-told .given .1) (c .before .before .number .ensures))))
+    (λ c. sym (wide (now (c .before .before .before .before .before .before .before .args .text)) (omega (arith, c .if1 .taken, stands-as (headerIn (now (c .before .before .before .before .before .before .before .args .text))) (c .before .before .n .given .1) (c .before .before .before .before .number .ensures) .1 .0))))
     (λ c. fixed _ (c .before .before .before .before .before .before .before .pre .0) .long)
     (λ c. search needs)
     (λ c. search needs)
@@ -32,5 +32,5 @@ read-digits-spec =
     (λ c. search (needs, fixed _ (c .before .before .before .before .before .before .before .before .before .before .before .before .pre .0) .short))
     (λ c κs. (omega (arith, fixed _ (c .before .before .before .before .before .before .before .before .before .before .before .before .pre .0) .short), data-number (now (c .before .before .before .before .before .before .before .before .before .before .before .before .args .text)) (c .before .before .before .before .before .before .before .before .before .before .before .before .pre .0) (c .before .n2 .given .1) (c .before .before .before .number2 .ensures) .1 .1))
     (λ c. search needs)
-    (λ c. reads-as (now (c .before .before .before .before .before .before .before .before .before .before .before .before .before .args .text)) (c .before .before .before .before .before .before .before .before .before .before .before .before .before .pre .0) (stand-for (headerIn (now (c .before .before .before .before .before .before .before .before .before .before .before .before .before .args .text))) (c .before .before .before .before .before .before .before .before .n .given .1) (c .before .before .before .before .before .before .before .before .before .before .number .ensures) .0) (data-number (now (c .before .before .before .before .before .before .before .before .before .before .before .before .before .args .text)) (c .before .before .before .before .before .before .before .before .before .before .before .before .before .pre .0) (c .before .before .n2 .given .1) (c .before .before .before .before .number2 .ensures) .0) (omega (arith, c .before .before .before .before .before .before .if1 .left)) (stand-for (headerIn (now (c .before .before .before .before .before .before .before .before .before .before .before .before .before .args .text))) (c .before .before .before .before .before .before .before .before .n .given .1) (c .before .before .before .before .before .before .before .before .before .before .number .ensures) .1 .0) (data-number (now (c .before .before .before .before .before .before .before .before .before .before .before .before .before .args .text)) (c .before .before .before .before .before .before .before .before .before .before .before .before .before .pre .0) (c .before .before .n2 .given .1) (c .before .before .before .before .number2 .ensures) .1 .0) (c .padded .ensures))
-    (λ c. sym (no-data (now (c .before .before .before .before .before .before .before .before .before .before .before .args .text)) (c .before .before .before .before .before .before .before .before .before .before .before .pre .0) (stand-for (headerIn (now (c .before .before .before .before .before .before .before .before .before .before .before .args .text))) (c .before .before .before .before .before .before .n .given .1) (c .before .before .before .before .before .before .before .before .number .ensures) .0) (data-not (now (c .before .before .before .before .before .before .before .before .before .before .before .args .text)) (c .enum-told2 .given .1) (c .before .before .number2 .ensures)))))
+    (λ c. reads-as (now (c .before .before .before .before .before .before .before .before .before .before .before .before .before .args .text)) (c .before .before .before .before .before .before .before .before .before .before .before .before .before .pre .0) (stands-as (headerIn (now (c .before .before .before .before .before .before .before .before .before .before .before .before .before .args .text))) (c .before .before .before .before .before .before .before .before .n .given .1) (c .before .before .before .before .before .before .before .before .before .before .number .ensures) .0) (data-number (now (c .before .before .before .before .before .before .before .before .before .before .before .before .before .args .text)) (c .before .before .before .before .before .before .before .before .before .before .before .before .before .pre .0) (c .before .before .n2 .given .1) (c .before .before .before .before .number2 .ensures) .0) (omega (arith, c .before .before .before .before .before .before .if1 .left)) (stands-as (headerIn (now (c .before .before .before .before .before .before .before .before .before .before .before .before .before .args .text))) (c .before .before .before .before .before .before .before .before .n .given .1) (c .before .before .before .before .before .before .before .before .before .before .number .ensures) .1 .0) (data-number (now (c .before .before .before .before .before .before .before .before .before .before .before .before .before .args .text)) (c .before .before .before .before .before .before .before .before .before .before .before .before .before .pre .0) (c .before .before .n2 .given .1) (c .before .before .before .before .number2 .ensures) .1 .0) (c .padded .ensures))
+    (λ c. sym (no-data (now (c .before .before .before .before .before .before .before .before .before .before .before .args .text)) (c .before .before .before .before .before .before .before .before .before .before .before .pre .0) (stands-as (headerIn (now (c .before .before .before .before .before .before .before .before .before .before .before .args .text))) (c .before .before .before .before .before .before .n .given .1) (c .before .before .before .before .before .before .before .before .number .ensures) .0) (data-as (now (c .before .before .before .before .before .before .before .before .before .before .before .args .text)) (c .enum-told2 .given .1) (c .before .before .number2 .ensures)))))

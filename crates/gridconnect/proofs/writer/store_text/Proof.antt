@@ -1,6 +1,6 @@
 use native.Mathlib.Omega.{arith}
 use Rattle.text.specs.Rules.{digit}
-use Rattle.text.specs.Hex.{digitsBelow}
+use Rattle.text.specs.Table.{tableOf}
 use Rattle.text.specs.Sheet.{then, alike, placed}
 use Rattle.gridconnect.specs.Pieces.{pieces}
 use borrow.Author.Needs.{needs}
@@ -8,7 +8,7 @@ use Rattle.gridconnect.proofs.writer.store_text.Statement.{statement}
 use Rattle.gridconnect.proofs.writer.store_text.Tie as tie
 
 pub store-text-spec : {M : Type 1} → statement M
-unfolding digitsBelow digit
+unfolding tableOf digit
 store-text-spec =
     tie.close (tie.spec
     (λ c κs. search needs)
