@@ -7,8 +7,8 @@ use Rattle.state.specs.Answers.{answerAs}
 use Rattle.state.specs.declared.Answer.{Answer}
 use Rattle.state.specs.declared.Answer.the-variants.{Accepted, Sent, Refused}
 use Rattle.card_api.specs.Out.{codeOf}
-use Rattle.segment_rules.specs.Rules.{Command}
-use Rattle.table.specs.Promise.{Does}
+use Rattle.segment_rules.specs.Rules.{places, Command, choose, Choice, names, nobody}
+use Rattle.table.specs.Promise.{chosen, Does, Tells}
 
 abbrev pub lateCode : Bool → ℕ
 lateCode true = 1
@@ -19,6 +19,17 @@ pub record Coded (c : Command) (t : List ℕ) (r : ℕ) (t′ : List ℕ) : Type
   pub answer : Answer
   pub code : r ≡ codeOf (answerAs answer)
   pub does : Does c t answer t′
+
+-- The same of a choice (A.8): always 0, and the word is the index, 24 for none.
+abbrev pub choiceWord : Choice → ℕ
+choiceWord (names index) = index
+choiceWord nobody = places
+
+pub record CodedChoice (t : List ℕ) (r : ℕ) (t′ ws : List ℕ) : Type 0 where
+  pub choice : Choice
+  pub code : r ≡ 0
+  pub does : Tells choose t (chosen choice) t′
+  pub word : ws ≡ choiceWord choice ∷ []
 
 -- Three words for the frame that left: its header, its length and its data; as they were where none did.
 abbrev pub SentWords : Answer → List ℕ → List ℕ → Type 0

@@ -8,13 +8,16 @@ pub mod map;
 use headers::frame::Frame;
 use state::Answer;
 use state::Refusal;
+use table::layout::Table;
 use table::layout::WORDS;
+use table::turns::Choice;
 ghost use mathlib.Core.Path.{_≡_};
 ghost use Rattle.segment_rules.specs.Rules.{powerOn, send, fail, deliver, tick, foreign, message, enquiry, release, link};
 ghost use Rattle.table.specs.Words.{Fresh, lateOf};
 ghost use Rattle.state.specs.Answers.{answerAs};
+ghost use Rattle.table.specs.Answers.{choiceAs};
 ghost use Rattle.card_api.specs.Out.{codeOf};
-ghost use Rattle.card_api.specs.Answers.{lateCode, Coded, SentWords, CodedSend};
+ghost use Rattle.card_api.specs.Answers.{lateCode, Coded, choiceWord, CodedChoice, SentWords, CodedSend};
 
 // 0 where accepted, else the refusal's number.
 fn code(a: Answer) -> u64
@@ -160,4 +163,23 @@ pub extern "C" fn card_link(table: &mut [u64; WORDS], index: usize, state: u8) -
 {
     let a = table::commands::link(&mut *table, index, state);
     code(a)
+}
+
+fn choice_word(c: Choice) -> u64
+    ensures { λ r. ⌜ r ≡ choiceWord (choiceAs c) ⌝ }
+{
+    match c {
+        Choice::Names(index) => index as u64,
+        Choice::Nobody => Table::PLACES as u64,
+    }
+}
+
+// Who sends next (A.8): the index, 24 for none.
+#[no_mangle]
+pub extern "C" fn card_choose(table: &mut [u64; WORDS], chosen: &mut [u64; 1]) -> u64
+    ensures { λ r. ⌜ CodedChoice (now (table .entry)) r (now (table .exit)) (now (chosen .exit)) ⌝ }
+{
+    let c = table::commands::choose(&mut *table);
+    *chosen = [choice_word(c)];
+    0
 }

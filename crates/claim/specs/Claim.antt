@@ -2,14 +2,12 @@
 use mathlib.Core.Path.{_≡_, refl, sym, ap, subst, _∙_}
 use mathlib.Core.Logic.{_≢_}
 use mathlib.Core.Bool.{Bool, true, false, false≢true, not, cond, _||_, _&&_, and-assoc}
-use mathlib.Core.List.{List, [], _∷_, _++_, map, map-append}
+use mathlib.Core.List.{List, [], _∷_, _++_, map}
 use Prim.Native.Nat.{ℕ, _+_, _*_, _<_, _≤_}
 use native.Mathlib.Omega.{arith}
 use lib.Dec.{ltb}
 use borrow.Author.Tests.{not-true, not-false, lt-ltb, ltb-true}
 use Rattle.node.specs.Rules.{Answer, accepted, refused, Value, timedFor, wait, uses, offNode, isOff, next, dueOf}
-use Rattle.state.specs.Answers.{answerAs}
-use Rattle.state.specs.declared.Answer as A
 use Rattle.headers.specs.declared.frame.Frame.{Frame}
 use Rattle.node.specs.declared.Node.{Node}
 use Rattle.segment_rules.specs.Rules.{
@@ -25,7 +23,10 @@ use Rattle.segment_rules.specs.Rules.{
   send,
   tick,
   foreign,
+  choose,
   answer,
+  Told,
+  told,
   effect,
   placeBy,
   stepBy,
@@ -48,19 +49,19 @@ use Rattle.segment_rules.specs.Rules.{
 use Rattle.segment_rules.specs.Limits.{InLimit}
 use Rattle.segment_rules.specs.LimitLaws.{out-any, limit-by, limit-passes, limit-more, limit-test, test-limit, old-at, old-none}
 use Rattle.headers.specs.Laws.{both}
-use Rattle.table.specs.Words.{Cell, frameOf, nodeAt, inbox, placeOf, agesOf, cellAt, lateOf, view, viewAges, Fresh}
-use Rattle.table.specs.WordLaws.{view-at}
+use Rattle.table.specs.Words.{Cell, frameOf, nodeAt, inbox, placeOf, agesOf, cellAt, lateOf, markOf, view, viewAges, Fresh}
+use Rattle.table.specs.WordLaws.{view-at, view-mark}
 use Rattle.table.specs.ClockLaws.{around-step, old-around}
 use Rattle.claim.specs.Single.{single, one-meaning}
 use Rattle.claim.specs.NodeIds.{apart-run}
-use Rattle.table.specs.Promise.{around, allAround, OldestFirst, bound, SoundWords, Done, Does}
+use Rattle.table.specs.Promise.{around, allAround, OldestFirst, bound, SoundWords, Carries, Tells}
 
 -- A LIST, carried out by the code: the commands cs, one after another on one table from all nodes Off, answered as and left
--- the words t. `Fresh` is what `new` ensures, `Does` what each command ensures.
-pub data Carried : List Command → List A.Answer → List ℕ → Type 0 where
+-- the words t. `Fresh` is what `new` ensures, `Tells` what each command ensures.
+pub data Carried : List Command → List Told → List ℕ → Type 0 where
   begun : {t : List ℕ} → Fresh t → Carried [] [] t
-  then : {cs : List Command} {xs : List A.Answer} {t : List ℕ} {c : Command} {a : A.Answer} {t′ : List ℕ}
-      → Carried cs xs t → Does c t a t′ → Carried (cs ++ c ∷ []) (xs ++ a ∷ []) t′
+  then : {cs : List Command} {xs : List Told} {t : List ℕ} {c : Command} {x : Told} {t′ : List ℕ}
+      → Carried cs xs t → Tells c t x t′ → Carried (cs ++ c ∷ []) (xs ++ x ∷ []) t′
 
 -- A.3: let i be the most ticks an inbox frame may stand and o the most that a reply RID or AMR may wait. Allowed is every i and o
 -- with 2 × i + o at most 200 and i + 2 × o at most 200.
@@ -80,13 +81,15 @@ pub record SingleAliases (t : List ℕ) : Type 0 where
       → dueOf wait (nodeAt t p) ≡ next f → dueOf wait (nodeAt t q) ≡ next g → f .header ≡ g .header → (f .len ≡ g .len) × (f .bytes ≡ g .bytes)
 
 -- THE CLAIM. What the rules give is `run start cs`, from the list's commands alone.
-pub record Claim (cs : List Command) (xs : List A.Answer) (t : List ℕ) : Type 0 where
-  -- every answer: accepted, for a send with the frame that left, or the refusal's number
-  pub answered : map answerAs xs ≡ answers start cs
+pub record Claim (cs : List Command) (xs : List Told) (t : List ℕ) : Type 0 where
+  -- every answer: accepted, for a send with the frame that left, or the refusal's number; and a choice's index or none (A.8)
+  pub answered : xs ≡ answers start cs
   -- each node, and so its state, its alias in Testing, every alias it uses, and its due frame or that it has none
   pub nodes : (k : ℕ) → k < places → nodeAt t k ≡ run start cs .at k .node
   -- each inbox in order, frames with their kinds
   pub inboxes : (k : ℕ) → k < places → map frameOf (inbox t k) ≡ run start cs .at k .inbox
+  -- the mark (A.8)
+  pub mark : markOf t ≡ run start cs .mark
   -- late exactly when some age in the list exceeded the limit
   pub late : lateOf t ≡ not (isKept limit limit cs)
   -- A.3: aliases stay single for every such i and o, where in the list no inbox frame's age exceeds i and no reply RID's or AMR's
@@ -104,10 +107,10 @@ run-snoc S [] c = refl
 run-snoc S (d ∷ cs) c = run-snoc (step S d) cs c
 
 answers-snoc : (S : Segment) (cs : List Command) (c : Command)
-    → answers S (cs ++ (c ∷ [])) ≡ answers S cs ++ (answer (run S cs) c ∷ [])
+    → answers S (cs ++ (c ∷ [])) ≡ answers S cs ++ (told (run S cs) c ∷ [])
 unfolding run answers
 answers-snoc S [] c = refl
-answers-snoc S (d ∷ cs) c = ap (λ (xs : List (Answer Value)). answer S d ∷ xs) (answers-snoc (step S d) cs c)
+answers-snoc S (d ∷ cs) c = ap (λ (xs : List Told). told S d ∷ xs) (answers-snoc (step S d) cs c)
 
 aged-snoc : (S : Segment) (G : ℕ → Ages) (cs : List Command) (c : Command)
     → aged ticks S G (cs ++ (c ∷ [])) ≡ ageStep ticks (run S cs) (aged ticks S G cs) c
@@ -151,6 +154,7 @@ one-tick (one n x) = omega arith
 one-tick (send n) = omega arith
 one-tick tick = omega arith
 one-tick (foreign f) = omega arith
+one-tick choose = omega arith
 
 -- with no age above the limit before, none is above one more
 limit-step : (S : Segment) (G : ℕ → Ages) (c : Command) (k : ℕ) → k < places → InLimit limit limit (S .at k .node) (G k)
@@ -175,20 +179,20 @@ limit-step S G c k hk h = go (answer S c)
 
 -- WHAT IS CARRIED THROUGH THE LIST: the answers, the segment, the ages modulo the round, and late
 
-pub record Followed (cs : List Command) (xs : List A.Answer) (t : List ℕ) : Type 0 where
-  pub answered : map answerAs xs ≡ answers start cs
+pub record Followed (cs : List Command) (xs : List Told) (t : List ℕ) : Type 0 where
+  pub answered : xs ≡ answers start cs
   pub table : view t ≡ run start cs
   pub ages : viewAges t ≡ allAround (aged ticks start noAges cs)
   pub late : lateOf t ≡ not (isKept limit limit cs)
   pub sound : SoundWords t
 
--- a command's answer is what the rules give
-pub told : {cs : List Command} {xs : List A.Answer} {t : List ℕ} {c : Command} {a : A.Answer} {t′ : List ℕ} → Followed cs xs t → Does c t a t′
-    → answerAs a ≡ answer (run start cs) c
-told {c = c} F d = d (F .sound) .answered ∙ ap (λ (S : Segment). answer S c) (F .table)
+-- what a command answers is what the rules give
+pub told-so : {cs : List Command} {xs : List Told} {t : List ℕ} {c : Command} {x : Told} {t′ : List ℕ} → Followed cs xs t → Tells c t x t′
+    → x ≡ told (run start cs) c
+told-so {c = c} F d = d (F .sound) .answered ∙ ap (λ (S : Segment). told S c) (F .table)
 
-module _ (cs : List Command) (xs : List A.Answer) (t : List ℕ) (c : Command) (a : A.Answer) (t′ : List ℕ) (F : Followed cs xs t) (d : Does c t a t′) where
-  abbrev D : Done c t a t′
+module _ (cs : List Command) (xs : List Told) (t : List ℕ) (c : Command) (x : Told) (t′ : List ℕ) (F : Followed cs xs t) (d : Tells c t x t′) where
+  abbrev D : Carries c t x t′
   D = d (F .sound)
 
   abbrev S : Segment
@@ -223,9 +227,9 @@ module _ (cs : List Command) (xs : List A.Answer) (t : List ℕ) (c : Command) (
       go true e = (λ j. (F .late ∙ ap not e) j || exact e j) ∙ twice (old limit limit places (step S c) (ageStep ticks S G c))
       go false e = ap (λ (b : Bool). b || old limit limit places (view t′) (viewAges t′)) (F .late ∙ ap not e)
 
-  follow : Followed (cs ++ c ∷ []) (xs ++ a ∷ []) t′
+  follow : Followed (cs ++ c ∷ []) (xs ++ x ∷ []) t′
   follow = record {
-    answered = map-append answerAs xs (a ∷ []) ∙ (λ i. F .answered i ++ told F d i ∷ []) ∙ sym (answers-snoc start cs c);
+    answered = (λ i. F .answered i ++ told-so F d i ∷ []) ∙ sym (answers-snoc start cs c);
     table = table-on ∙ sym (run-snoc start cs c);
     ages = ages-on ∙ ap allAround (sym (aged-snoc start noAges cs c));
     late = late-on ∙ ap not (sym (kept-snoc limit limit start noAges cs c));
@@ -237,7 +241,7 @@ module _ (cs : List Command) (xs : List A.Answer) (t : List ℕ) (c : Command) (
 module _ {t : List ℕ} (f : Fresh t) where
   fresh-table : view t ≡ start
   unfolding view
-  fresh-table = λ j. segment (λ k. at k (ltb k places) refl j)
+  fresh-table = λ j. segment (λ k. at k (ltb k places) refl j) (f .mark j)
     where
       at : (k : ℕ) (b : Bool) → ltb k places ≡ b → cond b (placeOf (cellAt t k)) blank ≡ blank
       at k true e = ap placeOf (f .cells k (ltb-true k places e))
@@ -261,7 +265,7 @@ module _ {t : List ℕ} (f : Fresh t) where
       nothing-old : InLimit (bound t) (bound t) offNode none
       nothing-old = record { inbox = tt; waiting = λ a. out-any (bound t) (timedFor offNode a) 0 (omega arith) }
 
-pub follows : {cs : List Command} {xs : List A.Answer} {t : List ℕ} → Carried cs xs t → Followed cs xs t
+pub follows : {cs : List Command} {xs : List Told} {t : List ℕ} → Carried cs xs t → Followed cs xs t
 unfolding run answers aged kept
 follows (begun f) = record {
   answered = refl;
@@ -275,7 +279,7 @@ follows (begun f) = record {
     no-age = record { inbox = tt; waiting = λ a. out-any limit (timedFor offNode a) 0 (omega arith) }
 follows (then r d) = follow _ _ _ _ _ _ (follows r) d
 
-module _ {cs : List Command} {xs : List A.Answer} {t : List ℕ} (r : Carried cs xs t) (k : ℕ) (h : k < places) where
+module _ {cs : List Command} {xs : List Told} {t : List ℕ} (r : Carried cs xs t) (k : ℕ) (h : k < places) where
   same-place : placeOf (cellAt t k) ≡ run start cs .at k
   same-place = sym (view-at t k h) ∙ ap (λ (S : Segment). S .at k) (follows r .table)
 
@@ -287,11 +291,12 @@ pub below-wait : (i o : ℕ) → Allowed i o → (2 * i + o < wait) × (i + 2 * 
 below-wait i o h = (omega (arith, h .0), omega (arith, h .1))
 
 -- DEMAND 3, for any number of commands and any operands.
-pub claim : {cs : List Command} {xs : List A.Answer} {t : List ℕ} → Carried cs xs t → Claim cs xs t
+pub claim : {cs : List Command} {xs : List Told} {t : List ℕ} → Carried cs xs t → Claim cs xs t
 claim {cs} {xs} {t} r = record {
   answered = follows r .answered;
   nodes = λ k h. same-node r k h;
   inboxes = λ k h. ap (λ (p : Place). p .inbox) (same-place r k h);
+  mark = sym (view-mark t) ∙ ap (λ (S : Segment). S .mark) (follows r .table);
   late = follows r .late;
   single = λ i o h e. let b = below-wait i o h in record {
     one-user = λ p q hp hq ne u v x. single i o (b .0) (b .1) cs e p q hp hq ne
@@ -310,12 +315,12 @@ claim {cs} {xs} {t} r = record {
 }
 
 -- Document 01's limits, 40 and 40, are one case.
-pub base : {cs : List Command} {xs : List A.Answer} {t : List ℕ} → Carried cs xs t → isKept limit limit cs ≡ true → SingleAliases t
+pub base : {cs : List Command} {xs : List Told} {t : List ℕ} → Carried cs xs t → isKept limit limit cs ≡ true → SingleAliases t
 base r = claim r .single limit limit (omega arith, omega arith)
 
 -- What late tells of other limits: a list that is not late keeps all that are as great or greater, a late one none that are as small
 -- or smaller.
-module _ {cs : List Command} {xs : List A.Answer} {t : List ℕ} (r : Carried cs xs t) (i o : ℕ) where
+module _ {cs : List Command} {xs : List Told} {t : List ℕ} (r : Carried cs xs t) (i o : ℕ) where
   pub kept-above : lateOf t ≡ false → limit ≤ i → limit ≤ o → isKept i o cs ≡ true
   kept-above e hi ho = kept-more limit limit i o hi ho start noAges cs (not-false (isKept limit limit cs) (sym (claim r .late) ∙ e))
 

@@ -19,6 +19,7 @@ use Rattle.segment_rules.specs.Rules.{
   send,
   tick,
   foreign,
+  choose,
   stays,
   gets,
   placeBy,
@@ -38,6 +39,7 @@ OrderAt (one n delivers) k P = Unit {0}
 OrderAt (send n) k P = Unit {0}
 OrderAt tick k P = Unit {0}
 OrderAt (foreign f) k P = Unit {0}
+OrderAt choose k P = Unit {0}
 
 pub by-order : (b : Bool) (m : Node) (p : Place) → placeBy (orderBy b m) p .node ≡ m
 by-order true m p = refl
@@ -79,3 +81,4 @@ module _ (R : Node → Node → Type 0) (same : (n : Node) → R n n) (heard : (
       go (refused number) own e = same (S .at k .node)
   each-node tick k o = ticked (S .at k .node)
   each-node (foreign f) k o = joined (trimmed f) (S .at k)
+  each-node choose k o = same (S .at k .node)

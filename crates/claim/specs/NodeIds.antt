@@ -21,6 +21,7 @@ use Rattle.segment_rules.specs.Rules.{
   send,
   tick,
   foreign,
+  choose,
   hasId,
   idInUse,
   answer,
@@ -101,6 +102,7 @@ module _ (S : Segment) where
   each-place (send n) v e k = inr (keeps (send n) k tt)
   each-place tick v e k = inr (keeps tick k tt)
   each-place (foreign f) v e k = inr (keeps (foreign f) k tt)
+  each-place choose v e k = inr (keeps choose k tt)
 
   -- so two nodes have two Node IDs after a command where they had before
   carried-apart : (c : Command) (v : Value) → answer S c ≡ accepted v → AllApart S → (p q : ℕ) → p < places → q < places → p ≢ q → Apart (after c p) (after c q)

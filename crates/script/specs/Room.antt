@@ -26,6 +26,7 @@ use Rattle.segment_rules.specs.Rules.{
   send,
   tick,
   foreign,
+  choose,
   someOther,
   isFull,
   isEmpty,
@@ -78,6 +79,7 @@ two-answer S (send n) =
     let b = someOther isFull n places S in
     two-refuse (leb places n) 1 (thenRefuse a b 5) (omega arith) (two-then a b 5 (omega arith) (two-digits wait (S .at n .node) N.leave))
 two-answer S tick = tt
+two-answer S choose = tt
 two-answer S (foreign f) =
     two-refuse (malformed f) 9 (refuse (someOther isFull places places S) 5 (accepted done)) (omega arith)
     (two-refuse (someOther isFull places places S) 5 (accepted done) (omega arith) tt)

@@ -9,12 +9,10 @@ use lib.Seq.{drop-drop}
 use Rattle.text.specs.Rules.{sheet, write, Wrote, Printed}
 use Rattle.text.specs.Sheet.{carried, printed}
 use Rattle.node.specs.Rules.{Answer, Value, refused}
-use Rattle.state.specs.Answers.{answerAs}
-use Rattle.state.specs.declared.Answer as A
-use Rattle.segment_rules.specs.Rules.{limit, start, Command, answer, step, run, isKept}
+use Rattle.segment_rules.specs.Rules.{limit, start, Command, answer, Told, step, run, isKept}
 use Rattle.table.specs.Words.{lateOf, Fresh}
-use Rattle.table.specs.Promise.{Does}
-use Rattle.claim.specs.Claim.{Carried, begun, then, run-snoc, follows, told}
+use Rattle.table.specs.Promise.{plainly, Tells}
+use Rattle.claim.specs.Claim.{Carried, begun, then, run-snoc, follows, told-so}
 use Rattle.script.specs.Rules.{Found, command, refusal, nothing, readOf, Script, next, stop, end, onward, scriptOf, listed, line, lines, lastLine, outputOf, output}
 use Rattle.script.specs.Answers.{readAs}
 use Rattle.script.specs.Scripts.{taken, taken-within, next-takes, goes-on}
@@ -32,7 +30,7 @@ rest script at p = cond (p .more) (scriptOf (drop at script)) end
 -- start: it has carried out a list of commands, and its text is on its way.
 pub record Going (script old : List ℕ) (at : ℕ) (p : Progress) (t out : List ℕ) : Type 0 where
   pub commands : List Command
-  pub answers : List A.Answer
+  pub answers : List Told
   pub made : Carried commands answers t
   pub text : write (sheet out (p .place)) (ahead commands (p .done) (rest script at p)) ≡ write (sheet old 0) (output script)
 
@@ -88,7 +86,7 @@ rest-by script at p more e =
 
 module _ (t out : List ℕ) (p : Progress) where
   -- a command on the table, and its line
-  module _ (t′ out′ : List ℕ) (b took to : ℕ) (c : Command) (a : A.Answer) where
+  module _ (t′ out′ : List ℕ) (b took to : ℕ) (c : Command) (a : Answer Value) where
     abbrev after : Progress
     after = record { done = p .done + 1; place = to; more = true }
 
@@ -97,24 +95,24 @@ module _ (t out : List ℕ) (p : Progress) where
     unfolding onward
     rest-next script at more e = rest-by script at p more e ∙ rw (drop-drop took at script)
 
-    goes-next : Does c t a t′ → Wrote (sheet out (p .place)) (line (p .done + 1) b (answerAs a)) (sheet out′ to)
+    goes-next : Tells c t (plainly a) t′ → Wrote (sheet out (p .place)) (line (p .done + 1) b a) (sheet out′ to)
         → (script : List ℕ) {old : List ℕ} (at : ℕ) → p .more ≡ true → command b c took ≡ readOf (drop at script)
         → Going script old at p t out → Going script old (at + took) after t′ out′
     goes-next does wrote script {old} at more e g = record {
       commands = g .commands ++ c ∷ [];
-      answers = g .answers ++ a ∷ [];
+      answers = g .answers ++ plainly a ∷ [];
       made = then (g .made) does;
       text =
           carried (ahead (g .commands ++ c ∷ []) (p .done + 1) (scriptOf (drop (at + took) script))) wrote
           ∙ ap (write (sheet out (p .place)))
           (ap (λ (x : Answer Value). line (p .done + 1) b x ++ ahead (g .commands ++ c ∷ []) (p .done + 1) (scriptOf (drop (at + took) script)))
-          (told (follows (g .made)) does)
+          (ap (λ (x : Told). x .answer) (told-so (follows (g .made)) does))
           ∙ sym (ahead-next (g .commands) (p .done) b c (scriptOf (drop (at + took) script)))
           ∙ ap (ahead (g .commands) (p .done)) (sym (rest-next script at more e)))
           ∙ g .text;
     }
 
-    pub turned-next : Does c t a t′ → Wrote (sheet out (p .place)) (line (p .done + 1) b (answerAs a)) (sheet out′ to)
+    pub turned-next : Tells c t (plainly a) t′ → Wrote (sheet out (p .place)) (line (p .done + 1) b a) (sheet out′ to)
         → Turned p (command b c took) t out after t′ out′
     turned-next does wrote = record { goes = goes-next does wrote; further = λ script at e _. (refl, next-takes (drop at script) (sym e)) }
 

@@ -1,8 +1,8 @@
--- Worked examples of the segment's rules: sentences of document 01, of A.1, of A.2 and of A.6, each at one segment, all in one
--- statement.
+-- Worked examples of the segment's rules: sentences of document 01, of A.1, of A.2, of A.6 and of A.8, each at one segment, all in
+-- one statement.
 use mathlib.Core.Path.{_≡_, refl}
 use mathlib.Core.Bool.{Bool, true, false, cond}
-use mathlib.Core.List.{List, [], _∷_}
+use mathlib.Core.List.{List, [], _∷_, map}
 use Prim.Native.Nat.{ℕ}
 use lib.Dec.{eqb}
 use lib.ListN.{replicate}
@@ -79,11 +79,13 @@ use Rattle.segment_rules.specs.Rules.{
   Segment,
   segment,
   blank,
+  firstMark,
   start,
   Command,
   send,
   tick,
   foreign,
+  choose,
   powerOn,
   fail,
   deliver,
@@ -91,8 +93,14 @@ use Rattle.segment_rules.specs.Rules.{
   enquiry,
   release,
   link,
+  names,
+  nobody,
+  firstDue,
   someOther,
   answer,
+  Besides,
+  plain,
+  chose,
   step,
   run,
   answers,
@@ -124,16 +132,23 @@ pub data Example : Type 0 where
   -- a look at the node at this index is answered so, and one at this frame of its inbox
   shows : Segment → (index : ℕ) → Answer Seen → Example
   finds : Segment → (index place : ℕ) → Answer Frame → Example
+  -- these commands, with this mark before them, answer so besides, and then this mark stands
+  chooses : Segment → (mark : ℕ) → List Command → List Besides → (mark : ℕ) → Example
+
+-- A segment with another mark.
+abbrev pub withMark : Segment → (mark : ℕ) → Segment
+withMark S m = segment (S .at) m
 
 abbrev pub Holds : Example → Type 0
 Holds (says S c a) = answer S c ≡ a
 Holds (makes S c k n xs) = step S c .at k ≡ place n xs
-Holds (lists cs ys k n xs) = (answers start cs ≡ ys) × (run start cs .at k ≡ place n xs)
+Holds (lists cs ys k n xs) = (map (λ x. x .answer) (answers start cs) ≡ ys) × (run start cs .at k ≡ place n xs)
 Holds (ageing S G cs k xs w) = (aged ticks S G cs k .inbox ≡ xs) × (aged ticks S G cs k .waiting 0x263 ≡ w)
 Holds (judges S G cs b) = kept ticks limit limit S G cs ≡ b
 Holds (keeps cs b) = isKept limit limit cs ≡ b
 Holds (shows S k a) = looks S k ≡ a
 Holds (finds S k j a) = looksIn S k j ≡ a
+Holds (chooses S m cs xs m′) = (map (λ x. x .besides) (answers (withMark S m) cs) ≡ xs) × (run (withMark S m) cs .mark ≡ m′)
 
 abbrev pub All : List Example → Type 0
 All [] = Unit
@@ -205,10 +220,10 @@ beside n = record {
 
 -- all nodes Off but one; but two, the second under that other Node ID
 abbrev pub alone : (index : ℕ) → Node → (inbox : List Frame) → Segment
-alone i n xs = segment (λ k. cond (eqb k i) (place n xs) blank)
+alone i n xs = segment (λ k. cond (eqb k i) (place n xs) blank) firstMark
 
 abbrev pub two : (index : ℕ) → Node → (inbox : List Frame) → (index : ℕ) → Node → (inbox : List Frame) → Segment
-two i n xs j m ys = segment (λ k. cond (eqb k i) (place n xs) (cond (eqb k j) (place (beside m) ys) blank))
+two i n xs j m ys = segment (λ k. cond (eqb k i) (place n xs) (cond (eqb k j) (place (beside m) ys) blank)) firstMark
 
 -- ages at an index, of inbox frames and of what waits for any alias; elsewhere none
 abbrev pub agesAt : (index : ℕ) → List ℕ → ℕ → ℕ → Ages
@@ -532,11 +547,74 @@ ofNodeIds =
     ∷ lists (powerOn 0 0x050101010101 ∷ powerOn 1 0x050101010101 ∷ send 0 ∷ deliver 1 ∷ []) (accepted done ∷ refused 15 ∷ accepted (left ownCid) ∷ refused 2 ∷ []) 1 offNode []
     ∷ []
 
+-- TURNS (A.8)
+
+-- a choice that names this index
+abbrev pub named : ℕ → Besides
+named k = chose (names k)
+
+-- a node with a due frame at every index
+abbrev pub allTesting : Segment
+allTesting = segment (λ k. place testing []) firstMark
+
+abbrev pub ofChoices : List Example
+ofChoices =
+    -- the mark is at first 23: node 0 is the first after it
+    chooses start 23 [] [] firstMark
+    ∷ chooses allTesting firstMark (choose ∷ []) (named 0 ∷ []) 0
+    -- the first with a due frame after the one chosen last, wrapping past 23
+    ∷ chooses allTesting 7 (choose ∷ choose ∷ []) (named 8 ∷ named 9 ∷ []) 9
+    ∷ chooses allTesting 22 (choose ∷ choose ∷ choose ∷ []) (named 23 ∷ named 0 ∷ named 1 ∷ []) 1
+    ∷ chooses (two 3 testing [] 9 testing []) 3 (choose ∷ []) (named 9 ∷ []) 9
+    ∷ chooses (two 3 testing [] 9 testing []) 8 (choose ∷ []) (named 9 ∷ []) 9
+    ∷ chooses (two 3 testing [] 9 testing []) 9 (choose ∷ []) (named 3 ∷ []) 3
+    ∷ chooses (two 3 testing [] 23 testing []) 3 (choose ∷ []) (named 23 ∷ []) 23
+    -- the node chosen last is looked at last, and is named where no other has a due frame
+    ∷ chooses (alone 3 testing []) 3 (choose ∷ []) (named 3 ∷ []) 3
+    ∷ chooses (alone 0 testing []) 0 (choose ∷ []) (named 0 ∷ []) 0
+    ∷ chooses (alone 23 testing []) 23 (choose ∷ []) (named 23 ∷ []) 23
+    -- when no node has a due frame the choice says none and keeps its mark
+    ∷ chooses start 7 (choose ∷ []) (chose nobody ∷ []) 7
+    ∷ chooses (two 3 permitted (frame1 ∷ []) 4 (inState Silent) []) 7 (choose ∷ []) (chose nobody ∷ []) 7
+    -- which nodes have a due frame: in Testing all but in the wait, in Reserved and Leaving all, in Permitted those with one waiting
+    ∷ chooses (alone 3 (inState (Testing 4 200)) []) 7 (choose ∷ []) (chose nobody ∷ []) 7
+    ∷ chooses (alone 3 (inState (Testing 4 201)) []) 7 (choose ∷ []) (named 3 ∷ []) 3
+    ∷ chooses (alone 3 (inState Reserved) []) 7 (choose ∷ []) (named 3 ∷ []) 3
+    ∷ chooses (alone 3 replying []) 7 (choose ∷ []) (named 3 ∷ []) 3
+    ∷ chooses (alone 3 (waits permitted (withAmd noneWaiting true)) []) 7 (choose ∷ []) (named 3 ∷ []) 3
+    ∷ chooses (alone 3 duplicate []) 7 (choose ∷ []) (named 3 ∷ []) 3
+    ∷ chooses (alone 3 (reporting ErrorPassive Report0) []) 7 (choose ∷ []) (named 3 ∷ []) 3
+    ∷ chooses (alone 3 hostWaiting []) 7 (choose ∷ []) (named 3 ∷ []) 3
+    ∷ chooses (alone 3 leaving []) 7 (choose ∷ []) (named 3 ∷ []) 3
+    ∷ chooses (alone 3 (inState Resting) []) 7 (choose ∷ []) (chose nobody ∷ []) 7
+    ∷ chooses (alone 3 (inState Silent) []) 7 (choose ∷ []) (chose nobody ∷ []) 7
+    -- there are 24 places
+    ∷ chooses (alone 24 testing []) 7 (choose ∷ []) (chose nobody ∷ []) 7
+    -- the choice sends nothing: node, inbox and ages are as they were, and it is accepted though an inbox is full
+    ∷ makes (alone 3 testing (frame1 ∷ [])) choose 3 testing (frame1 ∷ [])
+    ∷ makes (two 3 testing [] 4 replying (frame1 ∷ [])) choose 4 (beside replying) (frame1 ∷ [])
+    ∷ ageing (alone 3 replying (frame1 ∷ [])) (agesAt 3 (9 ∷ []) 7) (choose ∷ []) 3 (9 ∷ []) 7
+    ∷ says (two 3 testing [] 4 testing (many 32)) choose (accepted done)
+    -- the mark moves on every choice that names a node, whatever the send then answers: here 5
+    ∷ says (two 3 testing [] 4 testing (many 32)) (send 3) (refused 5)
+    ∷ chooses (two 3 testing [] 4 testing (many 32)) 23 (choose ∷ send 3 ∷ choose ∷ []) (named 3 ∷ plain ∷ named 4 ∷ []) 4
+    -- power-on leaves it, of the node chosen last too; so do a send, a failed send, a delivery, a tick, a foreign frame, a host order
+    ∷ chooses (alone 3 testing []) 3 (powerOn 3 0x050101010101 ∷ []) (plain ∷ []) 3
+    ∷ chooses (alone 3 testing []) 7 (powerOn 4 0x050101010102 ∷ choose ∷ choose ∷ []) (plain ∷ named 3 ∷ named 4 ∷ []) 4
+    ∷ chooses (alone 3 testing []) 7 (send 3 ∷ fail 3 ∷ []) (plain ∷ plain ∷ []) 7
+    ∷ chooses (alone 3 permitted (frame1 ∷ [])) 7 (deliver 3 ∷ tick ∷ foreign frame2 ∷ []) (plain ∷ plain ∷ plain ∷ []) 7
+    ∷ chooses (alone 3 permitted []) 7 (message 3 0x5B4 0 0 ∷ link 3 1 ∷ release 3 ∷ []) (plain ∷ plain ∷ plain ∷ []) 7
+    -- and so does a refusal
+    ∷ chooses start 7 (send 3 ∷ powerOn 24 0 ∷ []) (plain ∷ plain ∷ []) 7
+    -- a chatty exhibit: node 0 has its next message ordered at once, and node 5 has its turn all the same
+    ∷ chooses (two 0 hostWaiting [] 5 hostWaiting []) 23 (choose ∷ send 0 ∷ message 0 0x5B4 0 0 ∷ choose ∷ send 5 ∷ choose ∷ []) (named 0 ∷ plain ∷ plain ∷ named 5 ∷ plain ∷ named 0 ∷ []) 0
+    ∷ []
+
 abbrev pub examples : List (List Example)
-examples = ofAnswers ∷ ofPlaces ∷ ofAges ∷ ofKept ∷ ofLooks ∷ ofLinks ∷ ofReports ∷ ofNodeIds ∷ []
+examples = ofAnswers ∷ ofPlaces ∷ ofAges ∷ ofKept ∷ ofLooks ∷ ofLinks ∷ ofReports ∷ ofNodeIds ∷ ofChoices ∷ []
 
 pub examples-hold : AllOf examples
-unfolding someOther run answers aged old kept seen looks frameIn looksIn offNode fresh restart moved counted waits linked cidFrame ridFrame amdFrame amrFrame reportFrame errorFrame isOwn firstWaiting dueOf tickOf sentPermitted sentOf failedOf sameAlias addressed otherAlias received malformed used trimmed onPowerOn onLeave onFail hostOrders onMessage onEnquiry onRelease linkTold onLink kindIn mixed
+unfolding firstDue someOther run answers aged old kept seen looks frameIn looksIn offNode fresh restart moved counted waits linked cidFrame ridFrame amdFrame amrFrame reportFrame errorFrame isOwn firstWaiting dueOf tickOf sentPermitted sentOf failedOf sameAlias addressed otherAlias received malformed used trimmed onPowerOn onLeave onFail hostOrders onMessage onEnquiry onRelease linkTold onLink kindIn mixed
 examples-hold = (
   (refl, (refl, (refl, (refl, (refl, (refl, (refl, (refl, (refl, (refl, (refl, (refl, (refl, (refl, (refl, (refl, (refl, (refl, (refl, (refl, (refl, (refl, (refl, (refl, (refl, (refl, (refl, (refl, (refl, (refl, (refl, (refl, tt)))))))))))))))))))))))))))))))),
   (
@@ -553,7 +631,10 @@ examples-hold = (
               (refl, (refl, (refl, (refl, (refl, (refl, tt)))))),
               (
                 (refl, (refl, (refl, (refl, (refl, (refl, (refl, (refl, (refl, (refl, (refl, (refl, (refl, (refl, (refl, (refl, ((refl, refl), (refl, (refl, (refl, (refl, ((refl, refl), ((refl, refl), tt))))))))))))))))))))))),
-                tt,
+                (
+                  ((refl, refl), ((refl, refl), ((refl, refl), ((refl, refl), ((refl, refl), ((refl, refl), ((refl, refl), ((refl, refl), ((refl, refl), ((refl, refl), ((refl, refl), ((refl, refl), ((refl, refl), ((refl, refl), ((refl, refl), ((refl, refl), ((refl, refl), ((refl, refl), ((refl, refl), ((refl, refl), ((refl, refl), ((refl, refl), ((refl, refl), ((refl, refl), ((refl, refl), (refl, (refl, ((refl, refl), (refl, (refl, ((refl, refl), ((refl, refl), ((refl, refl), ((refl, refl), ((refl, refl), ((refl, refl), ((refl, refl), ((refl, refl), tt)))))))))))))))))))))))))))))))))))))),
+                  tt,
+                ),
               ),
             ),
           ),

@@ -7,3 +7,4 @@ pub mod LimitLaws
 pub mod Others
 pub mod Passed
 pub mod ListsBut28
+pub mod Turns

@@ -1,5 +1,5 @@
--- A.5 over lists: whatever bit 28 foreign equipment sends, every answer and every node are the same, the inboxes are too but for
--- that bit, and one list is kept where the other is. What two lists of commands and two segments are that differ in no more stands
+-- A.5 over lists: whatever bit 28 foreign equipment sends, every answer and every node are the same, the mark too, the inboxes
+-- but for that bit, and one list is kept where the other is. What two lists of commands and two segments are that differ in no more stands
 -- first, and what is claimed of them (`RunsBut28`) last; these are to be believed.
 use mathlib.Core.Path.{_≡_, refl, ap, subst, _∙_}
 use mathlib.Core.Bool.{Bool, true, false, not, cond, _&&_, _||_}
@@ -10,7 +10,7 @@ use lib.ListN.{length}
 use Rattle.headers.specs.Bit28.{But28, itself, malformed-but-28, trimmed-but-28}
 use Rattle.headers.specs.declared.frame.Frame.{Frame}
 use Rattle.node.specs.Rules as N
-use Rattle.node.specs.Rules.{Answer, accepted, refused, refuse, Value, done, left, wait, isOff, tickOf, trimmed, onOrder, onLeave}
+use Rattle.node.specs.Rules.{Answer, accepted, refused, refuse, Value, done, left, wait, isOff, tickOf, isDue, dueOf, trimmed, onOrder, onLeave}
 use Rattle.node.specs.Bit28.{received-but-28}
 use Rattle.node.specs.declared.Node.{Node}
 use Rattle.segment_rules.specs.Rules.{
@@ -28,6 +28,12 @@ use Rattle.segment_rules.specs.Rules.{
   send,
   tick,
   foreign,
+  choose,
+  names,
+  after,
+  firstDue,
+  choice,
+  markBy,
   someOther,
   isFull,
   isEmpty,
@@ -37,6 +43,8 @@ use Rattle.segment_rules.specs.Rules.{
   answerAt,
   idInUse,
   answer,
+  chose,
+  besides,
   Effect,
   stays,
   becomes,
@@ -51,6 +59,7 @@ use Rattle.segment_rules.specs.Rules.{
   effectAt,
   sentBy,
   effect,
+  markAfter,
   stepBy,
   step,
   run,
@@ -86,8 +95,9 @@ pub record PlacesBut28 (p q : Place) : Type 0 where
   pub node : p .node ≡ q .node
   pub inbox : InboxesBut28 (p .inbox) (q .inbox)
 
-abbrev pub SegmentsBut28 : Segment → Segment → Type 0
-SegmentsBut28 S T = (k : ℕ) → PlacesBut28 (S .at k) (T .at k)
+pub record SegmentsBut28 (S T : Segment) : Type 0 where
+  pub at : (k : ℕ) → PlacesBut28 (S .at k) (T .at k)
+  pub mark : S .mark ≡ T .mark
 
 -- INBOXES
 
@@ -143,10 +153,10 @@ module _ (S T : Segment) (h : SegmentsBut28 S T) where
   other-but-28 Q q i (suc n) = λ z. (not (eqb n i) && q n z) || other-but-28 Q q i n z
 
   full-but-28 : (i n : ℕ) → someOther isFull i n S ≡ someOther isFull i n T
-  full-but-28 = other-but-28 isFull (λ k z. leb inboxRoom (length-but-28 (h k .inbox) z))
+  full-but-28 = other-but-28 isFull (λ k z. leb inboxRoom (length-but-28 (h .at k .inbox) z))
 
   in-use-but-28 : (n : ℕ) (x : Act) → idInUse S n x ≡ idInUse T n x
-  in-use-but-28 n (orders (N.powerOn id)) = other-but-28 (hasId id) (λ k z. hasId id (place (h k .node z) [])) _ _
+  in-use-but-28 n (orders (N.powerOn id)) = other-but-28 (hasId id) (λ k z. hasId id (place (h .at k .node z) [])) _ _
   in-use-but-28 n (orders N.fail) = refl
   in-use-but-28 n (orders (N.message field len bytes)) = refl
   in-use-but-28 n (orders (N.enquiry len bytes)) = refl
@@ -155,9 +165,9 @@ module _ (S T : Segment) (h : SegmentsBut28 S T) where
   in-use-but-28 n delivers = refl
 
   answered-at : (k : ℕ) (x : Act) → answerAt (S .at k) x ≡ answerAt (T .at k) x
-  answered-at k (orders x) = ap (λ (n : Node). onOrder wait n x .answer) (h k .node)
+  answered-at k (orders x) = ap (λ (n : Node). onOrder wait n x .answer) (h .at k .node)
   answered-at k delivers =
-      λ z. refuse (isOff (h k .node z .phase)) 2 (refuse (empty-but-28 (h k .inbox) z) 6 (accepted done))
+      λ z. refuse (isOff (h .at k .node z .phase)) 2 (refuse (empty-but-28 (h .at k .inbox) z) 6 (accepted done))
 
   answered-foreign : (f g : Frame) → But28 f g → answer S (foreign f) ≡ answer T (foreign g)
   answered-foreign f g b =
@@ -165,28 +175,54 @@ module _ (S T : Segment) (h : SegmentsBut28 S T) where
 
   answered : {c d : Command} → CommandsBut28 c d → answer S c ≡ answer T d
   answered (same (one n x)) = λ z. indexed n (thenRefuse (answered-at n x z) (in-use-but-28 n x z) 15)
-  answered (same (send n)) = λ z. indexed n (thenRefuse (onLeave wait (h n .node z) .answer) (full-but-28 n places z) 5)
+  answered (same (send n)) = λ z. indexed n (thenRefuse (onLeave wait (h .at n .node z) .answer) (full-but-28 n places z) 5)
   answered (same tick) = refl
   answered (same (foreign f)) = answered-foreign f f (itself f)
+  answered (same choose) = refl
   answered (turned {f} {g} b) = answered-foreign f g b
 
+  chosen : (n k : ℕ) → firstDue S n k ≡ firstDue T n k
+  unfolding firstDue
+  chosen zero k = refl
+  chosen (suc n) k = λ z. cond (isDue (dueOf wait (h .at k .node z))) (names k) (chosen n (after k) z)
+
+  same-choice : choice S ≡ choice T
+  same-choice = chosen places (after (S .mark)) ∙ ap (λ (m : ℕ). firstDue T places (after m)) (h .mark)
+
+  besides-but-28 : {c d : Command} → CommandsBut28 c d → besides S c ≡ besides T d
+  besides-but-28 (same (one n x)) = refl
+  besides-but-28 (same (send n)) = refl
+  besides-but-28 (same tick) = refl
+  besides-but-28 (same (foreign f)) = refl
+  besides-but-28 (same choose) = ap chose same-choice
+  besides-but-28 (turned b) = refl
+
+  marked : {c d : Command} → CommandsBut28 c d → markAfter S c ≡ markAfter T d
+  marked (same (one n x)) = h .mark
+  marked (same (send n)) = h .mark
+  marked (same tick) = h .mark
+  marked (same (foreign f)) = h .mark
+  marked (same choose) = λ z. markBy (same-choice z) (h .mark z)
+  marked (turned b) = h .mark
+
   effect-at : (k : ℕ) (x : Act) → effectAt (S .at k) x ≡ effectAt (T .at k) x
-  effect-at k (orders x) = ap (λ (n : Node). orderBy (empties x) (onOrder wait n x .node)) (h k .node)
+  effect-at k (orders x) = ap (λ (n : Node). orderBy (empties x) (onOrder wait n x .node)) (h .at k .node)
   effect-at k delivers =
-      ap reads (delivered-but-28 (S .at k .node) (h k .inbox) ∙ ap (delivered (T .at k .inbox)) (h k .node))
+      ap reads (delivered-but-28 (S .at k .node) (h .at k .inbox) ∙ ap (delivered (T .at k .inbox)) (h .at k .node))
 
   effect-of : (c : Command) (k : ℕ) → effect S c k ≡ effect T c k
   effect-of (one n x) k = λ z. cond (eqb k n) (effect-at k x z) stays
   effect-of (send n) k =
-      sent-by (onLeave wait (S .at n .node) .answer) (onLeave wait (S .at n .node) .node) (eqb k n) (S .at k) (T .at k) (h k .node)
-      ∙ ap (λ (m : Node). sentBy (onLeave wait m .answer) (onLeave wait m .node) (eqb k n) (T .at k)) (h n .node)
-  effect-of tick k = ap (λ (n : Node). becomes (tickOf wait n)) (h k .node)
-  effect-of (foreign f) k = ap (λ (n : Node). cond (isOff (n .phase)) stays (gets (trimmed f))) (h k .node)
+      sent-by (onLeave wait (S .at n .node) .answer) (onLeave wait (S .at n .node) .node) (eqb k n) (S .at k) (T .at k) (h .at k .node)
+      ∙ ap (λ (m : Node). sentBy (onLeave wait m .answer) (onLeave wait m .node) (eqb k n) (T .at k)) (h .at n .node)
+  effect-of tick k = ap (λ (n : Node). becomes (tickOf wait n)) (h .at k .node)
+  effect-of (foreign f) k = ap (λ (n : Node). cond (isOff (n .phase)) stays (gets (trimmed f))) (h .at k .node)
+  effect-of choose k = refl
 
   effects : {c d : Command} → CommandsBut28 c d → (k : ℕ) → EffectsBut28 (effect S c k) (effect T d k)
   effects (same c) k = subst (EffectsBut28 (effect S c k)) (effect-of c k) (same (effect S c k))
   effects (turned {f} {g} b) k =
-      subst (λ (n : Node). EffectsBut28 (effect S (foreign f) k) (cond (isOff (n .phase)) stays (gets (trimmed g)))) (h k .node)
+      subst (λ (n : Node). EffectsBut28 (effect S (foreign f) k) (cond (isOff (n .phase)) stays (gets (trimmed g)))) (h .at k .node)
       (go (isOff (S .at k .node .phase)))
     where
       go : (off : Bool) → EffectsBut28 (cond off stays (gets (trimmed f))) (cond off stays (gets (trimmed g)))
@@ -201,8 +237,11 @@ module _ (S T : Segment) (h : SegmentsBut28 S T) where
       either false u v = v
 
       by : (a : Answer Value) → SegmentsBut28 (stepBy a S c) (stepBy a T d)
-      by (accepted v) k = either (ltb k places) (placed (effects b k) (S .at k) (T .at k) (h k)) (h k)
-      by (refused number) k = h k
+      by (accepted v) = record {
+        at = λ k. either (ltb k places) (placed (effects b k) (S .at k) (T .at k) (h .at k)) (h .at k);
+        mark = marked b;
+      }
+      by (refused number) = h
 
   same-ticks : {c d : Command} → CommandsBut28 c d → ticks c ≡ ticks d
   same-ticks (same c) = refl
@@ -214,14 +253,14 @@ module _ (S T : Segment) (h : SegmentsBut28 S T) where
       by : (a : Answer Value) → ageBy (ticks c) a S G c ≡ ageBy (ticks c) a T G d
       by (accepted v) =
           λ z k. cond (ltb k places)
-          (passes (ticks c) (placed (effects b k) (S .at k) (T .at k) (h k) .node z) (aged-by (effects b k) _ _ (h k .node) (G k) z))
+          (passes (ticks c) (placed (effects b k) (S .at k) (T .at k) (h .at k) .node z) (aged-by (effects b k) _ _ (h .at k .node) (G k) z))
           (G k)
       by (refused number) = refl
 
   old-but-28 : (i o n : ℕ) (G : ℕ → Ages) → old i o n S G ≡ old i o n T G
   unfolding old
   old-but-28 i o zero G = refl
-  old-but-28 i o (suc n) G = λ z. oldAt i o (h n .node z) (G n) || old-but-28 i o n G z
+  old-but-28 i o (suc n) G = λ z. oldAt i o (h .at n .node z) (G n) || old-but-28 i o n G z
 
 -- LISTS
 
@@ -233,7 +272,8 @@ ran S T h (more {c} {d} b r) = ran (step S c) (step T d) (stepped S T h b) r
 all-answered : (S T : Segment) → SegmentsBut28 S T → {cs ds : List Command} → ListsBut28 cs ds → answers S cs ≡ answers T ds
 unfolding answers
 all-answered S T h none = refl
-all-answered S T h (more {c} {d} b r) = λ z. answered S T h b z ∷ all-answered (step S c) (step T d) (stepped S T h b) r z
+all-answered S T h (more {c} {d} b r) =
+    λ z. record { answer = answered S T h b z; besides = besides-but-28 S T h b z } ∷ all-answered (step S c) (step T d) (stepped S T h b) r z
 
 all-kept : (i o : ℕ) (S T : Segment) → SegmentsBut28 S T → (G : ℕ → Ages) {cs ds : List Command} → ListsBut28 cs ds
     → kept ticks i o S G cs ≡ kept ticks i o T G ds
@@ -247,15 +287,15 @@ all-kept i o S T h G (more {c} {d} {cs} {ds} b r) =
 -- What two such lists have in common, from all nodes Off.
 pub record RunsBut28 (cs ds : List Command) : Type 0 where
   pub answers : answers start cs ≡ answers start ds
-  pub places : SegmentsBut28 (run start cs) (run start ds)
+  pub segments : SegmentsBut28 (run start cs) (run start ds)
   pub kept : (i o : ℕ) → isKept i o cs ≡ isKept i o ds
 
 pub ignores-28 : {cs ds : List Command} → ListsBut28 cs ds → RunsBut28 cs ds
 ignores-28 r = record {
   answers = all-answered start start alike r;
-  places = ran start start alike r;
+  segments = ran start start alike r;
   kept = λ i o. all-kept i o start start alike noAges r;
 }
   where
     alike : SegmentsBut28 start start
-    alike k = record { node = refl; inbox = none }
+    alike = record { at = λ k. record { node = refl; inbox = none }; mark = refl }

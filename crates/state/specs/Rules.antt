@@ -175,6 +175,10 @@ pub data Due : Type 0 where
   nothing : Due
   next : Frame → Due
 
+abbrev pub isDue : Due → Bool
+isDue nothing = false
+isDue (next f) = true
+
 -- A.1: the error report, type 0, field 0x0710 and its number, carries the Node ID.
 unfoldable pub errorFrame : (number id alias : ℕ) → Frame
 errorFrame number id a = withId (sentHeader 0 (0x0710 + number) a) id

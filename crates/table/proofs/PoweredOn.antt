@@ -6,13 +6,12 @@ use mathlib.Core.List.{List}
 use Prim.Native.Nat.{ℕ, _<_}
 use borrow.Author.Tests.{eq-eqb, ne-eqb}
 use Rattle.node.specs.Rules.{Answer, accepted, refused, Value, isOff, Outcome, wait, powerOn, onOrder}
-use Rattle.state.specs.Answers.{answerAs, isRefused}
-use Rattle.state.specs.declared.Answer as A
+use Rattle.state.specs.Answers.{isRefused}
 use Rattle.node.specs.declared.Node.{Node}
 use Rattle.segment_rules.specs.Rules.{places, orders, one, someOther, hasId, begins}
 use Rattle.table.specs.Words.{placeOf, nodeAt, cellAt, view, At}
 use Rattle.table.specs.Parts.{cellBy}
-use Rattle.table.specs.Promise.{SoundWords, Done}
+use Rattle.table.specs.Promise.{SoundWords, Carries, plainly}
 use Rattle.table.proofs.Promised.{one-refused, one-in-use, one-done}
 
 -- A NODE ID AT A PLACE
@@ -29,10 +28,10 @@ module _ (t : List ℕ) (sound : SoundWords t) (i id : ℕ) (h : i < places) (o 
   said : (y : Answer Value) → o .answer ≡ y → onOrder wait (nodeAt t i) (powerOn id) .answer ≡ y
   said y e = sym (ap (λ (z : Outcome). z .answer) eo) ∙ e
 
-  pub power-refused : (a : A.Answer) → answerAs a ≡ o .answer → isRefused (answerAs a) ≡ true → Done (one i (orders (powerOn id))) t a t
-  power-refused a ea r = go (answerAs a) refl r
+  pub power-refused : (a : Answer Value) → a ≡ o .answer → isRefused a ≡ true → Carries (one i (orders (powerOn id))) t (plainly a) t
+  power-refused a ea r = go (a) refl r
     where
-      go : (y : Answer Value) → answerAs a ≡ y → isRefused y ≡ true → Done (one i (orders (powerOn id))) t a t
+      go : (y : Answer Value) → a ≡ y → isRefused y ≡ true → Carries (one i (orders (powerOn id))) t (plainly a) t
       go (accepted v) e r = absurd (false≢true r)
       go (refused number) e r = one-refused t sound i (orders (powerOn id)) a number h e (said (refused number) (sym ea ∙ e))
 
@@ -45,11 +44,11 @@ module _ (t : List ℕ) (sound : SoundWords t) (i id : ℕ) (h : i < places) (o 
         go (refused number) e r = absurd (true≢false r)
 
     -- A.6
-    pub power-in-use : (a : A.Answer) → answerAs a ≡ refused 15 → someOther (hasId id) i places (view t) ≡ true → Done (one i (orders (powerOn id))) t a t
+    pub power-in-use : (a : Answer Value) → a ≡ refused 15 → someOther (hasId id) i places (view t) ≡ true → Carries (one i (orders (powerOn id))) t (plainly a) t
     power-in-use a ea u = accepted-by (λ v e. one-in-use t sound i (orders (powerOn id)) a v h ea (said (accepted v) e) u)
 
-    pub power-done : (a : A.Answer) (t′ : List ℕ) → answerAs a ≡ o .answer → someOther (hasId id) i places (view t) ≡ false
-        → At t i (cellBy (begins (o .node)) (cellAt t i)) t′ → Done (one i (orders (powerOn id))) t a t′
+    pub power-done : (a : Answer Value) (t′ : List ℕ) → a ≡ o .answer → someOther (hasId id) i places (view t) ≡ false
+        → At t i (cellBy (begins (o .node)) (cellAt t i)) t′ → Carries (one i (orders (powerOn id))) t (plainly a) t′
     power-done a t′ ea u w = accepted-by (λ v e.
         one-done t sound i (orders (powerOn id)) a v t′ h (ea ∙ e) (said (accepted v) e) u
         (subst (λ (n : Node). At t i (cellBy (begins n) (cellAt t i)) t′) (ap (λ (z : Outcome). z .node) eo) w))

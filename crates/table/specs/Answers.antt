@@ -1,11 +1,13 @@
--- What looking answers, in document 01's terms: the number and values for each case of the enums.
+-- What looking and a choice answer, in the papers' terms: the number and values for each case of the enums.
 use Rattle.node.specs.Rules.{Answer, accepted, refused}
 use Rattle.state.specs.Answers.{dueAs, refusalAs}
 use Rattle.headers.specs.declared.frame.Frame.{Frame}
+use Rattle.segment_rules.specs.Rules.{Choice, names, nobody}
 use Rattle.segment_rules.specs.Looks.{Seen}
 use Rattle.table.specs.declared.look.Seen as S
 use Rattle.table.specs.declared.look.Looked as L
 use Rattle.table.specs.declared.look.Found as F
+use Rattle.table.specs.declared.turns.Choice as C
 
 abbrev pub seenAs : S.Seen → Seen
 seenAs s = record {
@@ -23,3 +25,8 @@ lookAs (L.the-variants.Refused r) = refused (refusalAs r)
 abbrev pub foundAs : F.Found → Answer Frame
 foundAs (F.the-variants.Frame f) = accepted f
 foundAs (F.the-variants.Refused r) = refused (refusalAs r)
+
+-- A.8: the index, or none.
+abbrev pub choiceAs : C.Choice → Choice
+choiceAs (C.the-variants.Names index) = names index
+choiceAs C.the-variants.Nobody = nobody

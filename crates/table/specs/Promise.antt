@@ -3,10 +3,10 @@ use mathlib.Core.Path.{_≡_}
 use mathlib.Core.Bool.{false, _||_}
 use mathlib.Core.List.{List, [], _∷_, map}
 use Prim.Native.Nat.{ℕ, _-_, _%_, _<_, _≤_}
-use Rattle.node.specs.Rules.{refused}
+use Rattle.node.specs.Rules.{Answer, accepted, refused, Value, done}
 use Rattle.state.specs.Answers.{answerAs}
 use Rattle.state.specs.declared.Answer as A
-use Rattle.segment_rules.specs.Rules.{places, limit, Command, answer, step, Ages, ages, ageStep, ticks, old}
+use Rattle.segment_rules.specs.Rules.{places, limit, Command, Choice, plain, chose, Told, told, step, Ages, ages, ageStep, ticks, old}
 use Rattle.segment_rules.specs.Limits.{InLimit}
 use Rattle.pack.specs.Words.{round}
 use Rattle.table.specs.Words.{Item, nodeAt, inbox, agesOf, cellAt, lateOf, slackOf, view, viewAges, Held}
@@ -38,16 +38,26 @@ pub record SoundWords (t : List ℕ) : Type 0 where
   pub limits : lateOf t ≡ false → (k : ℕ) → k < places → InLimit (bound t) (bound t) (nodeAt t k) (agesOf (cellAt t k))
   pub ordered : lateOf t ≡ false → (k : ℕ) → k < places → OldestFirst (inbox t k)
 
--- The command c on the words t answered a and left t′. Ages are kept modulo the clock's round; late is said when an age
+-- The command c on the words t answered x and left t′. Ages are kept modulo the clock's round; late is said when an age
 -- exceeds the limit, and then for good; a refusal leaves every word as it was.
-pub record Done (c : Command) (t : List ℕ) (a : A.Answer) (t′ : List ℕ) : Type 0 where
-  pub answered : answerAs a ≡ answer (view t) c
+pub record Carries (c : Command) (t : List ℕ) (x : Told) (t′ : List ℕ) : Type 0 where
+  pub answered : x ≡ told (view t) c
   pub table : view t′ ≡ step (view t) c
   pub ages : viewAges t′ ≡ allAround (ageStep ticks (view t) (viewAges t) c)
   pub late : lateOf t′ ≡ (lateOf t || old limit limit places (view t′) (viewAges t′))
   pub sound : SoundWords t′
-  pub unmoved : (number : ℕ) → answerAs a ≡ refused number → t′ ≡ t
+  pub unmoved : (number : ℕ) → x .answer ≡ refused number → t′ ≡ t
 
 -- What each command ensures: on words that are not sound only a safe end is owed.
+abbrev pub Tells : Command → List ℕ → Told → List ℕ → Type 0
+Tells c t x t′ = SoundWords t → Carries c t x t′
+
+-- What is told by a command that answers nothing besides, and by a choice, which is never refused (A.8).
+abbrev pub plainly : Answer Value → Told
+plainly a = record { answer = a; besides = plain }
+
+abbrev pub chosen : Choice → Told
+chosen x = record { answer = accepted done; besides = chose x }
+
 abbrev pub Does : Command → List ℕ → A.Answer → List ℕ → Type 0
-Does c t a t′ = SoundWords t → Done c t a t′
+Does c t a t′ = Tells c t (plainly (answerAs a)) t′

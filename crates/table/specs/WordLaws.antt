@@ -12,7 +12,7 @@ use Rattle.node.specs.Rules.{timedFor}
 use Rattle.segment_rules.specs.Rules.{places, inboxRoom, blank, none}
 use Rattle.pack.specs.Laws.{node-same}
 use Rattle.pack.specs.Words.{round, since, timedAge}
-use Rattle.table.specs.Words.{Cell, cell, placeOf, agesOf, block, countAt, firstAt, stampAt, slot, lateAt, clockAt, slackAt, nodeAt, itemFrom, itemAt, items, inbox, ageOf, cellAt, slackOf, view, viewAges, Held, At}
+use Rattle.table.specs.Words.{Cell, cell, placeOf, agesOf, block, countAt, firstAt, stampAt, slot, lateAt, clockAt, slackAt, markAt, nodeAt, itemFrom, itemAt, items, inbox, ageOf, cellAt, slackOf, markOf, view, viewAges, Held, At}
 
 pub lt-or-le : (a b : ℕ) → (a < b) ⊎ (b ≤ a)
 lt-or-le a b = go (ltb a b) refl
@@ -32,6 +32,9 @@ eq-or-ne a b = go (eqb a b) refl
 pub view-at : (t : List ℕ) (k : ℕ) → k < places → view t .at k ≡ placeOf (cellAt t k)
 unfolding view
 view-at t k h = ap (λ (b : Bool). cond b (placeOf (cellAt t k)) blank) (lt-ltb k places h)
+
+pub view-mark : (t : List ℕ) → view t .mark ≡ markOf t
+view-mark t = unfold view in refl
 
 pub ages-at : (t : List ℕ) (k : ℕ) → k < places → viewAges t k ≡ agesOf (cellAt t k)
 unfolding viewAges
@@ -93,6 +96,9 @@ module _ (t t′ : List ℕ) (k : ℕ) (hk : k < places) (h : Held t) (long : le
   same-slack : slackOf t′ ≡ slackOf t
   same-slack = above slackAt (omega arith)
 
+  same-mark : markOf t′ ≡ markOf t
+  same-mark = above markAt (omega arith)
+
   pub at-words : (x : Cell) → getD t′ (countAt k) 0 ≤ inboxRoom → getD t′ (firstAt k) 0 < inboxRoom → cellAt t′ k ≡ x → At t k x t′
   at-words x few ring this = record {
     inside = hk;
@@ -107,12 +113,14 @@ module _ (t t′ : List ℕ) (k : ℕ) (hk : k < places) (h : Held t) (long : le
           (λ (ne : j ≢ k). omega (arith, word j (firstAt j) ne (omega arith) (omega arith), h .ring j hj))
           (eq-or-ne j k);
       slack = omega (arith, same-slack, h .slack);
+      mark = omega (arith, same-mark, h .mark);
     };
     this = this;
     others = λ j hj ne. cell-ext t t′ j same-clock (λ q l r. word j q ne l r);
     clock = ap (λ (x : ℕ). x % round) same-clock;
     slack = same-slack;
     late = ap (λ (x : ℕ). eqb x 1) (above lateAt (omega arith));
+    mark = same-mark;
   }
 
 -- one after the other at the same place
@@ -125,8 +133,9 @@ at-then a b = record {
   clock = b .clock ∙ a .clock;
   slack = b .slack ∙ a .slack;
   late = b .late ∙ a .late;
+  mark = b .mark ∙ a .mark;
 }
 
 -- nothing has changed
 pub at-none : {t : List ℕ} {k : ℕ} {x : Cell} → Held t → k < places → cellAt t k ≡ x → At t k x t
-at-none h hk e = record { inside = hk; held = h; this = e; others = λ j hj ne. refl; clock = refl; slack = refl; late = refl }
+at-none h hk e = record { inside = hk; held = h; this = e; others = λ j hj ne. refl; clock = refl; slack = refl; late = refl; mark = refl }
