@@ -157,6 +157,40 @@ first-found S (suc n) j d hj l h = go (hasDue (S .at j)) refl (λ i l h. first-f
     go true q r = (0, omega arith, ap names (sym here))
     go false q r = further d l q h r
 
+never-both : (k : ℕ) → nobody ≡ names k → ⊥
+never-both k e = let z : _≡_ {A = ℕ} 0 1 = cc in omega arith
+
+-- Who is named has a due frame, so that its send is refused by 5 at most.
+pub named-due : (S : Segment) (n j k : ℕ) → firstDue S n j ≡ names k → hasDue (S .at k) ≡ true
+unfolding firstDue
+named-due S zero j k e = absurd (never-both k e)
+named-due S (suc n) j k e = go (hasDue (S .at j)) refl e (named-due S n (after j) k)
+  where
+    go : (b : Bool) → hasDue (S .at j) ≡ b → cond b (names j) (firstDue S n (after j)) ≡ names k
+        → (firstDue S n (after j) ≡ names k → hasDue (S .at k) ≡ true) → hasDue (S .at k) ≡ true
+    go true q e r = ap (λ (i : ℕ). hasDue (S .at i)) (sym (ap (λ (x : Choice). markBy x 0) e)) ∙ q
+    go false q e r = r e
+
+-- Where nobody is named, no node has a due frame.
+pub none-due : (S : Segment) → choice S ≡ nobody → (k : ℕ) → k < places → hasDue (S .at k) ≡ false
+none-due S e k h = go (hasDue (S .at k)) refl
+  where
+    m : ℕ
+    m = after (S .mark)
+
+    d : ℕ
+    d = (k + places - m) % places
+
+    there : (m + d) % places ≡ k
+    there = omega (arith, h)
+
+    named : hasDue (S .at k) ≡ true → UpTo m d (choice S)
+    named q = first-found S places m d (omega arith) (omega arith) (ap (λ (i : ℕ). hasDue (S .at i)) there ∙ q)
+
+    go : (b : Bool) → hasDue (S .at k) ≡ b → b ≡ false
+    go true q = let x = named q in absurd (never-both _ (sym e ∙ x .2))
+    go false q = refl
+
 -- LISTS
 
 or-left : (a b : Bool) → a ≡ true → (a || b) ≡ true
