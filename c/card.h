@@ -35,6 +35,9 @@ extern "C" {
 #define CARD_NODES 24
 #define CARD_INBOX 32
 
+/* In place of an index, from card_choose: no node has a due frame. As an index it is refused by 1. */
+#define CARD_NOBODY 24
+
 /* The entries that a map has room for. */
 #define MAP_ENTRIES 64
 
@@ -108,6 +111,14 @@ uint64_t card_link(uint64_t table[CARD_WORDS], size_t index, uint8_t state);
 
 /* The link states. A node starts with the first at power-on, and keeps the one that it was told until then. */
 enum { CARD_LINK_ERROR_ACTIVE, CARD_LINK_ERROR_PASSIVE, CARD_LINK_BUS_OFF };
+
+/* Who sends next, where all nodes share one CAN controller: the first node with a due frame after the one chosen last, wrapping
+ * past 23, so that the one chosen last is looked at last. Gives its index, or CARD_NOBODY. It sends nothing: call card_send for
+ * that node. Never refused.
+ * The table keeps a mark, the node chosen last, at first 23. It moves by every choice that names a node, whatever card_send then
+ * answers, and by nothing else but card_new; card_power_on leaves it. So a node that has a due frame at each of 24 choices is named
+ * by one of them, whatever the others queue or receive and whatever is called between these. */
+uint64_t card_choose(uint64_t table[CARD_WORDS], uint64_t chosen[1]);
 
 /* LOOKING */
 

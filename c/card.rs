@@ -14,6 +14,7 @@ extern "C" {
     fn card_enquiry(table: *mut u64, index: usize, len: u8, bytes: u64) -> u64;
     fn card_release(table: *mut u64, index: usize) -> u64;
     fn card_link(table: *mut u64, index: usize, state: u8) -> u64;
+    fn card_choose(table: *mut u64, chosen: *mut u64) -> u64;
     fn card_look(table: *const u64, index: usize, seen: *mut u64) -> u64;
     fn card_inbox(table: *const u64, index: usize, place: usize, frame: *mut u64) -> u64;
     fn map_new(map: *mut u64);

@@ -1,5 +1,5 @@
 /* 24 exhibits on one breaker, as firmware would run them on a bus with other equipment: when each is up, and under which alias.
- * Beside it a map of what is seen on the bus, as a viewer keeps one, and frames as text, as a viewer exchanges them. */
+ * Beside it a map of what is seen on the bus, as a viewer keeps one, frames as text, as a viewer exchanges them, and turns. */
 #include "card.h"
 #include <inttypes.h>
 #include <stdio.h>
@@ -218,12 +218,41 @@ static void view(void) {
     take_text(":x10702AAAN050101010110;");
 }
 
+/* A turn: all exhibits share one CAN controller, and the one that is chosen sends. */
+static void take_turn(void) {
+    uint64_t chosen[1], sent[CARD_SENT_WORDS];
+    card_choose(table, chosen);
+    if (chosen[0] == CARD_NOBODY) {
+        printf(" nobody");
+        return;
+    }
+    printf(" %" PRIu64, chosen[0]);
+    if (card_send(table, chosen[0], sent) == 0)
+        put_on_bus(sent);
+}
+
+/* A chatty exhibit, for which the next message is ordered before each turn but the last, does not delay the others. */
+static void share(unsigned turns) {
+    card_message(table, 8, 0x05B4, 0, 0);
+    card_message(table, 16, 0x05B4, 0, 0);
+    printf("%6u ms  exhibit 3 has a message due at every turn but the last, exhibits 8 and 16 have one each; turns:", now);
+    for (unsigned left = turns; left > 0; left--) {
+        if (left > 1)
+            card_message(table, 3, 0x05B4, 0, 0);
+        take_turn();
+        card_tick(table);
+        now++;
+    }
+    printf("\n");
+}
+
 int main(void) {
     switch_on();
     show_table();
     work();
     show_table();
     view();
+    share(7);
     ask(0x265);
     ask(0x267);
     return 0;

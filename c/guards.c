@@ -103,17 +103,65 @@ static const size_t FAR = SIZE_MAX;
 #define TEXT ((uint8_t *)words(&text))
 #define GRID words(&grid)
 
-/* Looking changes no word of the table. */
+/* The node chosen last. */
+static uint64_t last;
+
+static void new_table(void) {
+    card_new(T);
+    check_guards("card_new");
+    last = CARD_NODES - 1;
+}
+
+/* A choice. Of the table it changes one word at most, always the same one, which holds the mark, and none where nobody is named. Of
+ * the other buffers it writes that of its answer alone, with a number that this can be. */
+static void choose_any(void) {
+    static size_t mark = SIZE_MAX;
+    fill(&one);
+    ACCEPTED(card_choose(T, ONE));
+    if (ONE[0] > CARD_NOBODY)
+        fail("card_choose", "names what is no node", ONE[0]);
+    for (size_t i = 0; i < sizeof table.all / sizeof *table.all; i++)
+        if (table.all[i] != table.before[i]) {
+            if (ONE[0] == CARD_NOBODY || (mark != SIZE_MAX && mark != i))
+                fail("card_choose", "a word of the table has changed that may not", i);
+            mark = i;
+        }
+    EACH(b)
+        if (*b != &table && *b != &one)
+            check_same("card_choose", *b);
+}
+
+/* The first node with a due frame after the one chosen last, by what is seen of the nodes. */
+static uint64_t first_due(void) {
+    for (size_t i = 1; i <= CARD_NODES; i++) {
+        const size_t index = (last + i) % CARD_NODES;
+        uint64_t node[CARD_SEEN_WORDS];
+        card_look(T, index, node);
+        if (node[CARD_SEEN_DUE])
+            return index;
+    }
+    return CARD_NOBODY;
+}
+
+/* A choice that names this node, or nobody. */
+static void choose(uint64_t named) {
+    choose_any();
+    if (ONE[0] != named)
+        fail("card_choose", "names another than it has to", ONE[0]);
+    last = named == CARD_NOBODY ? last : named;
+}
+
+/* Looking changes no word of the table. A choice goes by what is seen. */
 static void look(size_t index) {
     ACCEPTED(card_look(T, index, SEEN));
     check_same("card_look", &table);
     for (int i = CARD_SEEN_INBOX + 1; i < CARD_SEEN_WORDS; i++)
         EXPECT(SEEN[i], 0);
+    choose(first_due());
 }
 
 static void while_off(void) {
-    card_new(T);
-    check_guards("card_new");
+    new_table();
     REFUSED(CARD_REFUSED_OFF, card_send(T, 0, SENT));
     REFUSED(CARD_REFUSED_OFF, card_fail(T, 0));
     REFUSED(CARD_REFUSED_OFF, card_deliver(T, 0));
@@ -126,6 +174,7 @@ static void while_off(void) {
     look(23);
     for (int i = 0; i < CARD_SEEN_WORDS; i++)
         EXPECT(SEEN[i], 0);
+    choose(CARD_NOBODY);
 }
 
 static void beyond_the_last(size_t index) {
@@ -315,6 +364,128 @@ static void moves(size_t from, size_t to) {
     ACCEPTED(card_power_on(T, to, highest));
     look_in_use(from);
     look_in_use(to);
+}
+
+/* A node that is on has sent its CIDs: nothing is due. */
+static void wait_with_nothing_due(size_t index) {
+    ACCEPTED(card_power_on(T, index, ID + index));
+    for (int i = 0; i < 4; i++)
+        ACCEPTED(card_send(T, index, SENT));
+}
+
+/* The mark at each node, and each node the only one with a due frame. A mark stays through a power-on and where nobody is named. */
+static void each_mark(void) {
+    for (size_t mark = 0; mark < CARD_NODES; mark++)
+        for (size_t due = 0; due < CARD_NODES; due++) {
+            new_table();
+            choose(CARD_NOBODY);
+            ACCEPTED(card_power_on(T, mark, ID + mark));
+            choose(mark);
+            wait_with_nothing_due(mark);
+            choose(CARD_NOBODY);
+            ACCEPTED(card_power_on(T, due, ID + due));
+            choose(due);
+            choose(due);
+        }
+}
+
+/* A full inbox: the send of the node that is named is refused, and the mark has moved all the same. */
+static void named_and_refused(void) {
+    new_table();
+    for (size_t i = 3; i < 9; i += 3)
+        ACCEPTED(card_power_on(T, i, ID + i));
+    for (uint32_t i = 0; i < CARD_INBOX; i++)
+        ACCEPTED(card_foreign(T, 2, i, 0, 0));
+    choose(3);
+    REFUSED(CARD_REFUSED_INBOX_FULL, card_send(T, 3, SENT));
+    choose(6);
+    REFUSED(CARD_REFUSED_INBOX_FULL, card_send(T, 6, SENT));
+    choose(3);
+}
+
+/* From a new table, whose mark is at 23, on: every second node has a due frame, then all. Each is named once in a round. */
+static void all_in_turn(void) {
+    new_table();
+    for (size_t i = 0; i < CARD_NODES; i += 2)
+        ACCEPTED(card_power_on(T, i, ID + i));
+    for (size_t i = 0; i < CARD_NODES; i += 2)
+        choose(i);
+    choose(0);
+    for (size_t i = 1; i < CARD_NODES; i += 2)
+        ACCEPTED(card_power_on(T, i, ID + i));
+    for (size_t i = 1; i <= 2 * CARD_NODES; i++)
+        choose(i % CARD_NODES);
+}
+
+/* A number by chance, the same ones at each run. */
+static uint64_t chance(void) {
+    static uint64_t state = 1;
+    state ^= state << 13;
+    state ^= state >> 7;
+    state ^= state << 17;
+    return state;
+}
+
+/* A command by chance, accepted or refused. */
+static void any_command(size_t index) {
+    switch (chance() % 8) {
+    case 0:
+        card_power_on(T, index, ID + index);
+        break;
+    case 1:
+        card_fail(T, index);
+        break;
+    case 2:
+        card_message(T, index, 0x15B4, 0, 0);
+        break;
+    case 3:
+        card_release(T, index);
+        break;
+    case 4:
+        for (uint64_t ticks = chance() % 300; ticks > 0; ticks--)
+            card_tick(T);
+        break;
+    case 5:
+        for (size_t i = 0; i < CARD_NODES; i++)
+            while (card_deliver(T, i) == 0)
+                check_guards("card_deliver");
+        break;
+    default:
+        card_send(T, last, SENT);
+    }
+}
+
+/* Choices between commands by chance, of which some name each node and some nobody. */
+static void choices_by_chance(void) {
+    unsigned times[CARD_NOBODY + 1] = {0};
+    new_table();
+    for (int i = 0; i < 4000; i++) {
+        any_command(chance() % CARD_NODES);
+        choose(first_due());
+        times[ONE[0]]++;
+    }
+    for (size_t i = 0; i <= CARD_NOBODY; i++)
+        if (times[i] < 10)
+            fail("card_choose", "is named too seldom for a test", i);
+}
+
+/* Words that no operation left: what is owed is that the choice returns, and writes where it may. */
+static void choices_on_any_words(void) {
+    for (int i = 0; i < 2000; i++) {
+        for (size_t j = 0; j < CARD_WORDS; j++) {
+            const uint64_t bits = chance() % 64;
+            T[j] = i < 64 ? UINT64_MAX >> i : chance() >> bits;
+        }
+        choose_any();
+    }
+}
+
+static void choices(void) {
+    each_mark();
+    named_and_refused();
+    all_in_turn();
+    choices_by_chance();
+    choices_on_any_words();
 }
 
 /* An alias with a Node ID, as an AMD defines them. */
@@ -541,12 +712,14 @@ int main(void) {
     inboxes(CARD_NODES - 1);
     ends(CARD_NODES - 1);
     moves(CARD_NODES - 1, 0);
+    choices();
     maps();
     headers();
     texts_written();
     texts_read();
     texts_refused();
-    printf("guards: %u calls accepted and %u refused: no word beside a buffer is written, none at all by a refusal\n", accepted,
-           refused);
+    printf("guards: %u calls accepted and %u refused: no word beside a buffer is written, none at all by a refusal, "
+           "and of the table by a choice the mark alone\n",
+           accepted, refused);
     return 0;
 }

@@ -9,7 +9,7 @@ use crate::expand::{expand, Expanded};
 use crate::explain::Explain;
 use crate::paint::Paint;
 use crate::picture::{self, Record};
-use crate::play::{self, Turn, LIMIT};
+use crate::play::{self, Act, Played, LIMIT};
 use crate::progress::Progress;
 use crate::script::{self, Fault, Line};
 use crate::summary::Summary;
@@ -34,7 +34,7 @@ pub fn fulfil(wish: &Wish) -> Result<Vec<u8>, Trouble> {
         Wish::Hex(file) => Ok(listing::listing(&bytes_of(file)?.bytes).into()),
         Wish::Names(file) => {
             let script = script_of(file)?;
-            Ok(spell::script(&script.bytes, &script.links).into())
+            Ok(spell::script(&script.bytes, &script.beside).into())
         }
         Wish::Bytes(file) => {
             let script = bytes_of(file)?;
@@ -119,7 +119,7 @@ fn run(script: &Expanded, file: &Path, options: &Options) -> Result<String, Trou
         if options.explain {
             explain.note(moment);
         } else {
-            lines += &printed(&moment.turn, options);
+            lines += &printed(&moment.played, options);
         }
         summary.note(moment);
         record.note(moment);
@@ -141,9 +141,9 @@ fn run(script: &Expanded, file: &Path, options: &Options) -> Result<String, Trou
     Ok(text)
 }
 
-/// The line of a turn; with --grid the frame that left in it, if one did.
-fn printed(turn: &Turn, options: &Options) -> String {
-    let line = if options.grid { play::text(turn) } else { Some(play::line(turn)) };
+/// The line of a command; with --grid the frame that left by it, if one did.
+fn printed(played: &Played, options: &Options) -> String {
+    let line = if options.grid { play::text(played) } else { Some(play::line(played)) };
     line.map_or(String::new(), |line| line + "\n")
 }
 
@@ -151,8 +151,8 @@ fn printed(turn: &Turn, options: &Options) -> String {
 fn plain(script: &Expanded) -> String {
     let mut card = Card::new();
     let mut text = String::new();
-    play::play(&script.bytes, &script.links, &mut card, |turn, _| {
-        text += &(play::line(turn) + "\n")
+    play::play(&script.bytes, &script.beside, &mut card, |played, _| {
+        text += &(play::line(played) + "\n")
     });
     text + play::last_line(&card) + "\n"
 }
@@ -161,10 +161,13 @@ fn plain(script: &Expanded) -> String {
 fn watched(script: &Expanded, mut show: impl FnMut(&Moment)) -> Card {
     let mut card = Card::new();
     let mut watch = Watch::default();
-    let mut progress = Progress::new(play::used(&script.bytes).len(), "bytes carried out");
-    play::play(&script.bytes, &script.links, &mut card, |turn, card| {
-        progress.at(turn.at);
-        show(&watch.look(turn, card));
+    let total = play::used(&script.bytes).len() + script.beside.len();
+    let mut progress = Progress::new(total, "bytes, link orders and turns carried out");
+    let mut beside = 0;
+    play::play(&script.bytes, &script.beside, &mut card, |played, card| {
+        beside += usize::from(matches!(played.act, Act::Link(_) | Act::Choice));
+        progress.at(played.at + beside);
+        show(&watch.look(played, card));
     });
     progress.end();
     card

@@ -8,11 +8,15 @@ use crate::link::Link;
 pub const PLACES: usize = 24;
 pub const WORDS: usize = 1928;
 
+/// What `card_choose` gives in place of an index where no node has a due frame, as c/card.h has it.
+pub const NOBODY: u64 = 24;
+
 /// The bytes of the longest GridConnect text, as c/card.h has them.
 pub const TEXT_MAX: usize = 28;
 
-/// The words that `card_send` and `grid_read`, `card_look`, `card_inbox` and `lcc_read_header` write.
+/// The words that `card_send` and `grid_read`, `card_choose`, `card_look`, `card_inbox` and `lcc_read_header` write.
 type Sent = [u64; 3];
+type Chosen = [u64; 1];
 type Look = [u64; 12];
 type Held = [u64; 4];
 type Read = [u64; 7];
@@ -25,11 +29,13 @@ pub enum Answer {
     Accepted,
     /// An accepted send, with the frame that left.
     Sent(Frame),
+    /// A choice, with the node that it names, or nobody.
+    Chosen(Option<u8>),
     Refused(u64),
 }
 
 impl Answer {
-    /// What a number of the library says of a command that is no send.
+    /// What a number of the library says of a command that is neither send nor choice.
     fn of(number: u64) -> Answer {
         if number == 0 {
             Answer::Accepted
@@ -183,6 +189,15 @@ impl Card {
     pub fn link(&mut self, link: &Link) -> Answer {
         // SAFETY: as in `carry_out`.
         Answer::of(unsafe { card_link(self.table.as_mut_ptr(), link.index.into(), link.state) })
+    }
+
+    /// Chooses who sends next, and sends nothing.
+    pub fn choose(&mut self) -> Option<u8> {
+        let mut chosen: Chosen = [0];
+        // SAFETY: as in `new`; `chosen` has the word that the operation writes.
+        let number = unsafe { card_choose(self.table.as_mut_ptr(), chosen.as_mut_ptr()) };
+        assert_eq!(number, 0, "a choice is never refused");
+        (chosen[0] != NOBODY).then_some(chosen[0] as u8)
     }
 
     fn send(&mut self, index: u8) -> Answer {

@@ -1,18 +1,18 @@
-//! The bytes that a script's lines stand for, and the link orders beside them. `all`, `settle` and lines of a viewer's log go by
-//! what the card holds, so each command is carried out here.
+//! The bytes that a script's lines stand for, and what stands beside them. `all`, `settle` and lines of a viewer's log go by what
+//! the card holds, so each command is carried out here.
 
+use crate::beside::{Beside, Placed};
 use crate::card::{Card, PLACES};
 use crate::command::{Command, Read};
 use crate::frame::Frame;
-use crate::link::{Link, Placed};
 use crate::progress::Progress;
 use crate::script::{Item, Line};
 
-/// A script's bytes, its link orders from first to last, and where each line's bytes begin.
+/// A script's bytes, its link orders and turns from first to last, and where each line's bytes begin.
 #[derive(Clone, Debug, Default)]
 pub struct Expanded {
     pub bytes: Vec<u8>,
-    pub links: Vec<Placed>,
+    pub beside: Vec<Placed>,
     starts: Vec<(usize, usize)>,
 }
 
@@ -35,7 +35,7 @@ pub fn expand(lines: &[Line]) -> Expanded {
         expander.item(&line.item);
     }
     progress.end();
-    Expanded { bytes: expander.bytes, links: expander.links, starts }
+    Expanded { bytes: expander.bytes, beside: expander.beside, starts }
 }
 
 struct Expander {
@@ -44,12 +44,13 @@ struct Expander {
     read: usize,
     ended: bool,
     bytes: Vec<u8>,
-    links: Vec<Placed>,
+    beside: Vec<Placed>,
 }
 
 impl Expander {
     fn new() -> Expander {
-        Expander { card: Card::new(), read: 0, ended: false, bytes: Vec::new(), links: Vec::new() }
+        let (bytes, beside) = (Vec::new(), Vec::new());
+        Expander { card: Card::new(), read: 0, ended: false, bytes, beside }
     }
 
     fn item(&mut self, item: &Item) {
@@ -58,9 +59,14 @@ impl Expander {
             Item::Ticks(count) => (0..*count).for_each(|_| self.command(&Command::Tick)),
             Item::DeliverAll => self.deliver_all(),
             Item::SendAll => self.send_all(),
-            Item::Settle(count) => (0..*count).for_each(|_| self.settle()),
+            Item::Settle(count) => (0..*count).for_each(|_| self.settle(Self::send_all)),
+            Item::SettleByTurns(count) => (0..*count).for_each(|_| self.settle(Self::turn)),
             Item::Log(frames) => frames.iter().for_each(|frame| self.heard(*frame)),
-            Item::Link(link) => self.link(*link),
+            Item::Link(link) => {
+                self.card.link(link);
+                self.put_beside(Beside::Link(*link));
+            }
+            Item::Turn => self.turn(),
             Item::Bytes(bytes) => {
                 self.bytes.extend(bytes);
                 self.carry_out();
@@ -74,9 +80,16 @@ impl Expander {
     }
 
     /// It comes after all bytes so far, which are whole commands: no other line can follow part of one.
-    fn link(&mut self, link: Link) {
-        self.card.link(&link);
-        self.links.push(Placed { at: self.bytes.len(), link });
+    fn put_beside(&mut self, what: Beside) {
+        self.beside.push(Placed { at: self.bytes.len(), what });
+    }
+
+    /// A choice, and a send of the node that it names.
+    fn turn(&mut self) {
+        if let Some(index) = self.card.choose() {
+            self.card.carry_out(&Command::Send { index });
+        }
+        self.put_beside(Beside::Turn);
     }
 
     /// For each node in order, as many deliveries as frames stand in its inbox.
@@ -98,9 +111,9 @@ impl Expander {
     }
 
     /// What happens in a tick of `settle`, and then the tick.
-    fn settle(&mut self) {
+    fn settle(&mut self, send: fn(&mut Expander)) {
         self.deliver_all();
-        self.send_all();
+        send(self);
         self.command(&Command::Tick);
     }
 

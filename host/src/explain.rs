@@ -1,29 +1,21 @@
-//! Beside each line of a run what it means in words; ticks in a row are one line.
+//! Beside each line of a run what it means in words; ticks in a row are one line, also with nobody's turn before each.
 
-use crate::card::{Answer, Seen, State, PLACES};
+use crate::card::{Answer, Seen, State};
 use crate::command::{Command, Read};
 use crate::frame::{Frame, Sort};
 use crate::hex::{dotted_id, joined};
 use crate::in_use::InUse;
 use crate::link::Link;
 use crate::paint::Paint;
-use crate::play::{self, Act};
+use crate::play::{self, Act, Played};
+use crate::ticks::Ticks;
 use crate::told::Told;
+use crate::turn::Choice;
 use crate::watch::{Late, Moment};
 use crate::words;
 
 /// The column at which the words begin.
 const COLUMN: usize = 38;
-
-/// Ticks in a row that have not been printed yet.
-struct Ticks {
-    first: usize,
-    last: usize,
-    tick: usize,
-    before: [Seen; PLACES],
-    after: [Seen; PLACES],
-    late: Option<Late>,
-}
 
 /// How the words beside a line are painted.
 enum Tone {
@@ -53,14 +45,16 @@ impl Tone {
 
 pub struct Explain {
     paint: Paint,
+    /// What has not been put yet: ticks in a row, and then a choice that names nobody.
     ticks: Option<Ticks>,
+    nobodys: Option<(Played, Choice)>,
     late: Option<Late>,
     text: String,
 }
 
 impl Explain {
     pub fn new(paint: Paint) -> Explain {
-        Explain { paint, ticks: None, late: None, text: String::new() }
+        Explain { paint, ticks: None, nobodys: None, late: None, text: String::new() }
     }
 
     pub fn note(&mut self, moment: &Moment) {
@@ -68,13 +62,16 @@ impl Explain {
         if moment.command() == Some(Command::Tick) {
             return self.tick(moment);
         }
-        self.put_ticks();
-        self.put(&play::line(&moment.turn), &meaning(moment), Tone::of(moment));
+        if let Some(choice) = moment.choice.filter(|choice| choice.named.is_none()) {
+            return self.nobodys(moment.played, choice);
+        }
+        self.put_open();
+        self.put(&play::line(&moment.played), &meaning(moment), Tone::of(moment));
     }
 
     /// The whole text, with the last line.
     pub fn end(mut self, last: &str) -> String {
-        self.put_ticks();
+        self.put_open();
         let why = match &self.late {
             Some(late) => words::late(late),
             None => words::kept(),
@@ -94,43 +91,39 @@ impl Explain {
     }
 
     fn tick(&mut self, moment: &Moment) {
-        let count = moment.turn.count;
-        let ticks = self.ticks.get_or_insert(Ticks {
-            first: count,
-            last: count,
-            tick: moment.tick,
-            before: moment.before,
-            after: moment.after,
-            late: None,
-        });
-        (ticks.last, ticks.tick, ticks.after) = (count, moment.tick, moment.after);
-        ticks.late = ticks.late.or(moment.late);
+        let choice = self.nobodys.take().map(|(_, choice)| choice);
+        if !self.ticks.as_mut().is_some_and(|ticks| ticks.join(moment, choice)) {
+            self.put_ticks();
+            self.ticks = Some(Ticks::new(moment, choice));
+        }
+    }
+
+    /// A choice that names nobody: where a tick follows, it has its part in the line of that.
+    fn nobodys(&mut self, played: Played, choice: Choice) {
+        if self.nobodys.is_some() {
+            self.put_open();
+        }
+        self.nobodys = Some((played, choice));
+    }
+
+    /// Puts what has not been put yet, since more might have joined it.
+    fn put_open(&mut self) {
+        self.put_ticks();
+        if let Some((played, choice)) = self.nobodys.take() {
+            self.put(&play::line(&played), &choice.words(), Tone::Plain);
+        }
     }
 
     fn put_ticks(&mut self) {
-        let Some(ticks) = self.ticks.take() else { return };
-        let Ticks { first, last, tick, .. } = ticks;
-        let line =
-            if first == last { format!("{first} 05 ok") } else { format!("{first}-{last} 05 ok") };
-        let mut meaning = match last - first {
-            0 => format!("a tick, tick {tick}"),
-            more => format!("{} ticks, up to tick {tick}", more + 1),
-        };
-        let due = |i: &usize| ticks.before[*i].due.is_none() && ticks.after[*i].due.is_some();
-        let due: Vec<usize> = (0..PLACES).filter(due).collect();
-        if let Some(frame) = due.first().and_then(|&i| ticks.after[i].due) {
-            meaning += &format!("; {} is due now at {}", words::short(&frame), words::nodes(&due));
+        if let Some(ticks) = self.ticks.take() {
+            self.put(&ticks.line(), &ticks.words(), Tone::of_ages(&ticks.late));
         }
-        if let Some(late) = &ticks.late {
-            meaning += &format!("; {}", words::late(late));
-        }
-        self.put(&line, &meaning, Tone::of_ages(&ticks.late));
     }
 }
 
 /// What a command that is no tick did.
 fn meaning(moment: &Moment) -> String {
-    match (moment.turn.act, moment.turn.answer) {
+    match (moment.played.act, moment.played.answer) {
         (Act::Bytes(byte, Read::Unknown), _) => {
             format!("{byte:02X} is no command: {}", words::refusal(10))
         }
@@ -148,6 +141,12 @@ fn meaning(moment: &Moment) -> String {
             format!("{}: refused, {}", told(&link), words::refusal(number))
         }
         (Act::Link(link), _) => format!("{}: {}", told(&link), linked(moment)),
+        (Act::Choice, _) => moment.choice.map_or(String::new(), |choice| choice.words()),
+        (Act::SendInTurn(index), Answer::Refused(number)) => {
+            let (wanted, why) = (wanted(&Command::Send { index }), words::refusal(number));
+            format!("{wanted}: refused, {why}; the mark is at {index} all the same")
+        }
+        (Act::SendInTurn(index), _) => sent(moment, index.into()),
     }
 }
 
@@ -255,7 +254,7 @@ fn powered(command: &Command, before: &Seen, after: &Seen) -> String {
 }
 
 fn sent(moment: &Moment, index: usize) -> String {
-    let Answer::Sent(frame) = moment.turn.answer else { return String::new() };
+    let Answer::Sent(frame) = moment.played.answer else { return String::new() };
     let (before, after) = (&moment.before[index], &moment.after[index]);
     let change = if moment.restarted(index) {
         format!("; it starts again, {}{}", words::standing(after), now_due(after))

@@ -27,10 +27,10 @@ pub struct InUse {
 impl InUse {
     pub fn of(moment: &Moment) -> Option<InUse> {
         let Some(Command::On { id, .. }) = moment.command() else { return None };
-        let index = moment.node().filter(|_| moment.turn.answer == Answer::Refused(NUMBER))?;
+        let index = moment.node().filter(|_| moment.played.answer == Answer::Refused(NUMBER))?;
         let seen = &moment.after;
         let user = (0..PLACES).find(|&other| seen[other].id == id)?;
-        Some(InUse { at: moment.turn.at, index, node: seen[index], user, used: seen[user] })
+        Some(InUse { at: moment.played.at, index, node: seen[index], user, used: seen[user] })
     }
 
     /// Which node has the Node ID and how that stands, and what becomes of the other.
@@ -56,7 +56,7 @@ pub struct AllInUse {
 impl AllInUse {
     pub fn note(&mut self, moment: &Moment) {
         for index in (0..PLACES).filter(|&i| moment.before[i].id != moment.after[i].id) {
-            self.since[index] = moment.turn.at;
+            self.since[index] = moment.played.at;
         }
         self.all.extend(InUse::of(moment).map(|in_use| (in_use, self.since[in_use.user])));
     }

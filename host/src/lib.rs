@@ -3,6 +3,7 @@
 
 pub mod actions;
 pub mod ages;
+pub mod beside;
 pub mod bit_28;
 pub mod card;
 pub mod command;
@@ -25,7 +26,9 @@ pub mod script;
 pub mod shared;
 pub mod spell;
 pub mod summary;
+pub mod ticks;
 pub mod told;
+pub mod turn;
 pub mod usage;
 pub mod watch;
 pub mod words;

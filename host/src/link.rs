@@ -1,5 +1,4 @@
-//! The link order: the host tells a node the state of its CAN link. It has no byte in a script, so the link orders of a script
-//! stand beside its bytes.
+//! The link order: the host tells a node the state of its CAN link.
 
 /// The link states in the order of their numbers: as a script has them, and as the standard calls them.
 pub const STATES: [(&str, &str); 3] =
@@ -10,13 +9,6 @@ pub const STATES: [(&str, &str); 3] =
 pub struct Link {
     pub index: u8,
     pub state: u8,
-}
-
-/// A link order of a script, and the place of the byte before which it comes.
-#[derive(Clone, Copy, Debug, PartialEq, Eq)]
-pub struct Placed {
-    pub at: usize,
-    pub link: Link,
 }
 
 impl Link {

@@ -8,7 +8,7 @@ use crate::operands::{Parsed, Words};
 use crate::script::{Fault, Item, Line, Source};
 
 /// The commands' names, each with its form.
-pub const FORMS: [(&str, &str); 12] = [
+pub const FORMS: [(&str, &str); 13] = [
     ("on", "on INDEX NODE-ID"),
     ("send", "send INDEX, or send all"),
     ("fail", "fail INDEX"),
@@ -19,7 +19,8 @@ pub const FORMS: [(&str, &str); 12] = [
     ("enquiry", "enquiry INDEX [NODE-ID] [length N]"),
     ("release", "release INDEX"),
     ("link", "link INDEX STATE"),
-    ("settle", "settle COUNT"),
+    ("turn", "turn"),
+    ("settle", "settle COUNT, or settle COUNT turns"),
     ("bytes", "bytes HEX .."),
 ];
 
@@ -86,9 +87,25 @@ fn item(name: &str, words: &mut Words) -> Parsed<Item> {
         "enquiry" => enquiry(words).map(Item::One),
         "release" => one(Command::Release { index: words.index()? }),
         "link" => Ok(Item::Link(Link { index: words.index()?, state: words.link_state()? })),
-        "settle" => Ok(Item::Settle(words.count()?)),
+        "turn" => turn(words),
+        "settle" => settle(words),
         _ => words.bytes().map(Item::Bytes),
     }
+}
+
+/// No word follows: the choice says whose turn it is.
+fn turn(words: &Words) -> Parsed<Item> {
+    match words.peek() {
+        None => Ok(Item::Turn),
+        Some(word) => Err(format!(
+            "\"{word}\" is too much: the card chooses whose turn it is, and send lets a node of your choice send"
+        )),
+    }
+}
+
+fn settle(words: &mut Words) -> Parsed<Item> {
+    let count = words.count()?;
+    Ok(if words.turns()? { Item::SettleByTurns(count) } else { Item::Settle(count) })
 }
 
 fn enquiry(words: &mut Words) -> Parsed<Command> {

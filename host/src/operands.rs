@@ -101,6 +101,15 @@ impl<'a> Words<'a> {
         self.number("count of ticks", 1, COUNT_MAX)
     }
 
+    /// `turns`, where it stands at the end of a line.
+    pub fn turns(&mut self) -> Parsed<bool> {
+        if self.peek().is_none() {
+            return Ok(false);
+        }
+        let turns = |word: &str| word.eq_ignore_ascii_case("turns").then_some(true);
+        self.take("way to settle", "turns, or nothing behind the count", turns)
+    }
+
     /// Up to so many hex digits.
     pub fn digits(&mut self, what: &str, most: usize) -> Parsed<u32> {
         let expected = format!("1 to {most} hex digits");

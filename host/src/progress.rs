@@ -35,7 +35,7 @@ impl Progress {
     /// Leaves nothing on the line.
     pub fn end(&self) {
         if self.shown {
-            let _ = write!(io::stderr(), "\r{:60}\r", "");
+            let _ = write!(io::stderr(), "\r{:72}\r", "");
         }
     }
 }

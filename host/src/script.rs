@@ -20,10 +20,26 @@ pub enum Item {
     DeliverAll,
     SendAll,
     Settle(usize),
+    /// The same, but one turn in place of all sends.
+    SettleByTurns(usize),
     /// Frames of a viewer's log.
     Log(Vec<Frame>),
     Link(Link),
+    Turn,
     Bytes(Vec<u8>),
+}
+
+impl Item {
+    /// What of it has no byte, if something has none.
+    fn without_byte(&self) -> Option<&'static str> {
+        match self {
+            Item::Link(_) => Some("link"),
+            Item::Turn => Some("turn"),
+            Item::SettleByTurns(_) => Some("a turn of settle"),
+            Item::One(_) | Item::Ticks(_) | Item::DeliverAll | Item::SendAll => None,
+            Item::Settle(_) | Item::Log(_) | Item::Bytes(_) => None,
+        }
+    }
 }
 
 #[derive(Clone, Debug, PartialEq, Eq)]
@@ -112,14 +128,16 @@ fn nothing_after_the_end(lines: &[Line]) -> Result<(), Vec<Fault>> {
     Ok(())
 }
 
-/// A script with a link order can be had by name alone, and the program cannot play it.
+/// A script with a link order or a turn can be had by name alone, and the program cannot play it.
 pub fn in_bytes(lines: &[Line]) -> Result<(), Vec<Fault>> {
-    let Some(link) = lines.iter().find(|line| matches!(line.item, Item::Link(_))) else {
-        return Ok(());
-    };
-    let why = "link has no byte in a script, so neither hex nor the program can have it; \
-               play it with --explain, --summary, --picture or --grid";
-    Err(vec![Fault { line: link.number, why: why.into() }])
+    let mut without =
+        lines.iter().filter_map(|line| Some((line.number, line.item.without_byte()?)));
+    let Some((line, name)) = without.next() else { return Ok(()) };
+    let why = format!(
+        "{name} has no byte in a script, so neither hex nor the program can have it; \
+         play it with --explain, --summary, --picture or --grid"
+    );
+    Err(vec![Fault { line, why }])
 }
 
 /// How bytes end a run, where they do.

@@ -20,7 +20,7 @@ impl Shared {
         let alias = after[(0..after.len()).find(begins)?].alias;
         let uses = |i: &usize| after[*i].state.uses_alias() && after[*i].alias == alias;
         let nodes: Vec<usize> = (0..after.len()).filter(uses).collect();
-        let (tick, count) = (moment.tick, moment.turn.count);
+        let (tick, count) = (moment.tick, moment.played.count);
         (nodes.len() > 1).then_some(Shared { alias, nodes, tick, count })
     }
 

@@ -1,21 +1,24 @@
-//! Bytes and link orders back to commands by name: the lines from which `names` makes the same again.
+//! Bytes, link orders and turns back to commands by name: the lines from which `names` makes the same again.
 
+use crate::beside::{Beside, Placed};
 use crate::command::{Command, Read};
 use crate::frame::{Frame, Sort, ELEVEN_BIT, EXTENDED, REMOTE};
 use crate::hex::{dotted_id, joined};
-use crate::link::Placed;
 
 /// The greatest count of one `tick`, and how many bytes stand in one line of `bytes`.
 const TICKS: usize = 65_536;
 const BYTES: usize = 32;
 
-/// A script by name. Each link order parts the bytes between two commands.
-pub fn script(bytes: &[u8], links: &[Placed]) -> String {
+/// A script by name. What stands beside the bytes parts them between two commands.
+pub fn script(bytes: &[u8], beside: &[Placed]) -> String {
     let mut text = String::new();
     let mut from = 0;
-    for Placed { at, link } in links {
+    for Placed { at, what } in beside {
         text += &commands(&bytes[from..*at]);
-        text += &format!("link {} {}\n", link.index, link.state_word());
+        text += &match what {
+            Beside::Link(link) => format!("link {} {}\n", link.index, link.state_word()),
+            Beside::Turn => "turn\n".into(),
+        };
         from = *at;
     }
     text + &commands(&bytes[from..])

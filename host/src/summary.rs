@@ -1,5 +1,5 @@
 //! The table at the end of a run: a row for each exhibit, collisions, link states that were told, Node IDs that were in use,
-//! whether the list was kept, how old frames became in it, and which came with bit 28 as 0.
+//! turns, whether the list was kept, how old frames became in it, and which came with bit 28 as 0.
 
 use crate::ages::Ages;
 use crate::bit_28::Bit28;
@@ -11,6 +11,7 @@ use crate::in_use::AllInUse;
 use crate::paint::Paint;
 use crate::shared::Shared;
 use crate::told::Told;
+use crate::turn::Turns;
 use crate::watch::{Arrival, Late, Moment};
 use crate::words;
 
@@ -62,6 +63,7 @@ pub struct Summary {
     shared: Vec<Shared>,
     links: Vec<Told>,
     in_use: AllInUse,
+    turns: Turns,
     commands: usize,
     refused: usize,
     ticks: usize,
@@ -81,6 +83,7 @@ impl Summary {
         self.shared.extend(Shared::of(moment));
         self.links.extend(Told::of(moment));
         self.in_use.note(moment);
+        self.turns.note(moment);
         self.late = self.late.or(moment.late);
         self.longest = moment.longest;
         self.bit_28.note(moment);
@@ -103,7 +106,7 @@ impl Summary {
     pub fn text(&self, card: &Card, script: &Expanded, paint: Paint) -> String {
         let seen = card.look_at_all();
         let mut text = String::from("\n");
-        text += &paint.bold(&cells(&HEAD.map(String::from)));
+        text += &paint.bold(&self.cells(&COLUMNS.map(|(name, _)| name.into())));
         text += "\n";
         for (from, to) in rows(&seen) {
             text += &self.row(from, to, &seen[from], paint);
@@ -113,6 +116,7 @@ impl Summary {
         text += &self.shared_text();
         text += &self.links_text();
         text += &self.in_use_text(script);
+        text += &self.turns_text();
         let (commands, refused) =
             (words::count(self.commands, "command", "commands"), self.refused);
         let (ticks, frames) = (words::count(self.ticks, "tick", "ticks"), self.frames);
@@ -130,7 +134,7 @@ impl Summary {
         let at = |tick: Option<usize>| tick.map_or_else(none, |tick| format!("tick {tick}"));
         let off = seen.state == State::Off;
         let cell = |text: String| if off { none() } else { text };
-        let line = cells(&[
+        let line = self.cells(&[
             index,
             cell(dotted_id(seen.id)),
             seen.state.name().into(),
@@ -140,6 +144,7 @@ impl Summary {
             cell(row.restarts.to_string()),
             seen.due.map_or_else(none, |frame| due(&frame)),
             cell(seen.inbox.to_string()),
+            cell(self.turns.of(from).to_string()),
         ]);
         let line = match seen.state {
             State::Permitted => paint.green(&line),
@@ -148,6 +153,14 @@ impl Summary {
             State::Testing | State::Reserved => line,
         };
         line + "\n"
+    }
+
+    /// Cells side by side, that of turns where there are some; without blanks at the end.
+    fn cells(&self, cells: &[String; COLUMNS.len()]) -> String {
+        let columns = COLUMNS.len() - usize::from(self.turns.is_empty());
+        let cells = cells.iter().zip(COLUMNS).take(columns);
+        let padded = cells.map(|(cell, (_, width))| format!("{cell:<width$}"));
+        padded.collect::<Vec<_>>().join("  ").trim_end().into()
     }
 
     fn collisions_text(&self) -> String {
@@ -183,6 +196,14 @@ impl Summary {
             return String::new();
         }
         named(&self.in_use.words(), self.in_use.lines(script))
+    }
+
+    /// Where no choice was made there is nothing to say.
+    fn turns_text(&self) -> String {
+        if self.turns.is_empty() {
+            return String::new();
+        }
+        self.turns.words() + "\n"
     }
 
     fn verdict(&self, paint: Paint) -> String {
@@ -233,15 +254,19 @@ fn due(frame: &Frame) -> String {
     }
 }
 
-const HEAD: [&str; 9] =
-    ["node", "Node ID", "state", "alias", "reserved", "Permitted", "restarts", "due", "inbox"];
-const WIDTHS: [usize; 9] = [5, 17, 9, 5, 10, 10, 8, 8, 5];
-
-/// Cells side by side; without blanks at the end.
-fn cells(cells: &[String; 9]) -> String {
-    let padded = cells.iter().zip(WIDTHS).map(|(cell, width)| format!("{cell:<width$}"));
-    padded.collect::<Vec<_>>().join("  ").trim_end().into()
-}
+/// The columns, each with its width. The last is there where there are turns.
+const COLUMNS: [(&str, usize); 10] = [
+    ("node", 5),
+    ("Node ID", 17),
+    ("state", 9),
+    ("alias", 5),
+    ("reserved", 10),
+    ("Permitted", 10),
+    ("restarts", 8),
+    ("due", 8),
+    ("inbox", 5),
+    ("turns", 5),
+];
 
 /// The nodes, each a row, but those in a row that are Off together.
 fn rows(seen: &[Seen; PLACES]) -> Vec<(usize, usize)> {

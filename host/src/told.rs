@@ -22,7 +22,7 @@ impl Told {
         let index = moment.node()?;
         let due =
             moment.after[index].due.filter(|_| moment.before[index].due != moment.after[index].due);
-        Some(Told { index, link, tick: moment.tick, count: moment.turn.count, due })
+        Some(Told { index, link, tick: moment.tick, count: moment.played.count, due })
     }
 
     pub fn words(&self) -> String {

@@ -1,5 +1,5 @@
-//! What a run shows: all nodes before and after each command, when each frame came into an inbox, how old frames have become, and
-//! what made a list late.
+//! What a run shows: all nodes before and after each command, whose turn it was, when each frame came into an inbox, how old
+//! frames have become, and what made a list late.
 
 use std::collections::VecDeque;
 
@@ -8,7 +8,8 @@ use crate::card::{Answer, Card, Seen, State, PLACES};
 use crate::command::Command;
 use crate::frame::{Frame, Sort};
 use crate::link::Link;
-use crate::play::{Act, Turn};
+use crate::play::{Act, Played};
+use crate::turn::Choice;
 
 /// Who put a frame on the bus.
 #[derive(Clone, Copy, Debug, PartialEq, Eq)]
@@ -68,12 +69,16 @@ pub struct Late {
 
 /// One command with all that it did. `tick` counts the ticks up to it, a tick itself included.
 pub struct Moment {
-    pub turn: Turn,
+    pub played: Played,
     pub tick: usize,
     pub before: [Seen; PLACES],
     pub after: [Seen; PLACES],
     /// The frame that was taken from an inbox.
     pub delivered: Option<Arrival>,
+    /// The choice that this command is.
+    pub choice: Option<Choice>,
+    /// Of the send of a turn, the choice before it.
+    pub turn: Option<Choice>,
     /// Set where the list became late by this command.
     pub late: Option<Late>,
     /// What has stood or waited too long from this command on, with its node.
@@ -86,14 +91,16 @@ pub struct Moment {
 
 impl Moment {
     /// A command and what the nodes show before and after it.
-    fn new(turn: &Turn, tick: usize, before: [Seen; PLACES], after: [Seen; PLACES]) -> Moment {
+    fn new(played: &Played, tick: usize, before: [Seen; PLACES], after: [Seen; PLACES]) -> Moment {
         let (overdue, ended, longest) = (Vec::new(), Vec::new(), Ages::default());
         Moment {
-            turn: *turn,
+            played: *played,
             tick,
             before,
             after,
             delivered: None,
+            choice: None,
+            turn: None,
             late: None,
             overdue,
             ended,
@@ -108,18 +115,18 @@ impl Moment {
     }
 
     pub fn command(&self) -> Option<Command> {
-        self.turn.command()
+        self.played.command()
     }
 
     pub fn link(&self) -> Option<Link> {
-        match self.turn.act {
+        match self.played.act {
             Act::Link(link) => Some(link),
-            Act::Bytes(..) => None,
+            Act::Bytes(..) | Act::Choice | Act::SendInTurn(_) => None,
         }
     }
 
     pub fn accepted(&self) -> bool {
-        !matches!(self.turn.answer, Answer::Refused(_))
+        !matches!(self.played.answer, Answer::Refused(_))
     }
 
     /// The node that the command names, where there is such a node.
@@ -139,7 +146,7 @@ impl Moment {
 
     /// The frame that came onto the bus, and from whom.
     pub fn on_the_bus(&self) -> Option<(Frame, Sender)> {
-        match (self.command()?, self.turn.answer) {
+        match (self.command()?, self.played.answer) {
             (Command::Foreign(frame), Answer::Accepted) => Some((frame, Sender::Foreign)),
             (Command::Send { index }, Answer::Sent(frame)) => {
                 Some((frame, Sender::Node(index.into())))
@@ -186,19 +193,22 @@ pub struct Watch {
     seen: [Seen; PLACES],
     inboxes: [VecDeque<Arrival>; PLACES],
     owed: [Option<Owed>; PLACES],
+    /// The last choice.
+    choice: Option<Choice>,
     tick: usize,
     late: bool,
     longest: Ages,
 }
 
 impl Watch {
-    /// What the command of this turn did to the card.
-    pub fn look(&mut self, turn: &Turn, card: &Card) -> Moment {
+    /// What a command did to the card.
+    pub fn look(&mut self, played: &Played, card: &Card) -> Moment {
         let after = card.look_at_all();
         let before = std::mem::replace(&mut self.seen, after);
-        let ticks = turn.command() == Some(Command::Tick);
+        let ticks = played.command() == Some(Command::Tick);
         self.tick += usize::from(ticks);
-        let mut moment = Moment::new(turn, self.tick, before, after);
+        let mut moment = Moment::new(played, self.tick, before, after);
+        self.turns(&mut moment);
         moment.delivered = self.inboxes(&mut moment, card);
         self.owed(&mut moment);
         if ticks {
@@ -212,6 +222,19 @@ impl Watch {
         moment
     }
 
+    /// Keeps the last choice, for the next one and for the send of its turn.
+    fn turns(&mut self, moment: &mut Moment) {
+        match (moment.played.act, moment.played.answer) {
+            (Act::Choice, Answer::Chosen(named)) => {
+                let last = self.choice.and_then(|choice| choice.last_then());
+                self.choice = Some(Choice { last, named: named.map(usize::from) });
+                moment.choice = self.choice;
+            }
+            (Act::SendInTurn(_), _) => moment.turn = self.choice,
+            _ => {}
+        }
+    }
+
     /// Brings the record of inboxes up to what the card has; gives the frame that a delivery took.
     fn inboxes(&mut self, moment: &mut Moment, card: &Card) -> Option<Arrival> {
         let mut taken = None;
@@ -222,7 +245,12 @@ impl Watch {
                 moment.end(index, taken.map(Aged::Inbox));
             }
             while let Some(frame) = card.inbox(index, inbox.len()) {
-                inbox.push_back(Arrival { frame, from, tick: self.tick, count: moment.turn.count });
+                inbox.push_back(Arrival {
+                    frame,
+                    from,
+                    tick: self.tick,
+                    count: moment.played.count,
+                });
             }
         }
         taken.filter(|_| matches!(moment.command(), Some(Command::Deliver { .. })))
@@ -235,7 +263,8 @@ impl Watch {
             let now = seen.due.filter(|frame| has_an_age(seen.state, frame));
             if owed.map(|owed| owed.frame) != now {
                 moment.end(index, owed.map(Aged::Due));
-                *owed = now.map(|frame| Owed { frame, tick: self.tick, count: moment.turn.count });
+                *owed =
+                    now.map(|frame| Owed { frame, tick: self.tick, count: moment.played.count });
             }
         }
     }
@@ -254,7 +283,7 @@ impl Watch {
         let age = self.aged().map(|(_, frame)| frame.age(self.tick)).max()?;
         let mut oldest = self.aged().filter(|(_, frame)| frame.age(self.tick) == age);
         let (index, what) = oldest.next()?;
-        let (tick, count) = (moment.tick, moment.turn.count);
+        let (tick, count) = (moment.tick, moment.played.count);
         Some(Late { tick, count, index, what, others: oldest.count() })
     }
 

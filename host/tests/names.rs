@@ -2,8 +2,9 @@
 
 mod random;
 
+use lcc::beside::{Beside, Placed};
 use lcc::expand::{expand, Expanded};
-use lcc::link::{Link, Placed};
+use lcc::link::Link;
 use lcc::{listing, script, spell};
 use random::Random;
 
@@ -11,10 +12,10 @@ fn expanded(text: &str) -> Expanded {
     expand(&script::parse(text).unwrap_or_else(|faults| panic!("{faults:?} in\n{text}")))
 }
 
-/// The bytes of a script that has no link order.
+/// The bytes of a script that has nothing beside them.
 fn bytes_of(text: &str) -> Vec<u8> {
-    let Expanded { bytes, links, .. } = expanded(text);
-    assert_eq!(links, [], "{text}");
+    let Expanded { bytes, beside, .. } = expanded(text);
+    assert_eq!(beside, [], "{text}");
     bytes
 }
 
@@ -48,32 +49,33 @@ fn random_bytes_there_and_back() {
     }
 }
 
-/// Scripts with link orders by name, and by name again: the same bytes, and the same link orders at the same places.
+/// Scripts with link orders and turns by name, and by name again: the same bytes, and the same beside them at the same places.
 #[test]
-fn ten_thousand_random_scripts_with_link_orders_there_and_back() {
-    let (mut links_seen, mut inner) = (0, 0);
+fn ten_thousand_random_scripts_with_more_than_bytes_there_and_back() {
+    let (mut links, mut turns, mut inner) = (0, 0, 0);
     for seed in 0..10_000 {
-        let text = random::script_with(&random::LINKS, &mut Random::new(seed));
+        let text = random::script_with(&random::beside(), &mut Random::new(seed));
         let there = expanded(&text);
-        let names = spell::script(&there.bytes, &there.links);
+        let names = spell::script(&there.bytes, &there.beside);
         let back = expanded(&names);
         assert_eq!(
-            (&back.bytes, &back.links),
-            (&there.bytes, &there.links),
+            (&back.bytes, &back.beside),
+            (&there.bytes, &there.beside),
             "seed {seed}:\n{text}"
         );
-        assert_eq!(spell::script(&back.bytes, &back.links), names, "seed {seed}");
+        assert_eq!(spell::script(&back.bytes, &back.beside), names, "seed {seed}");
         assert_eq!(
             script::in_bytes(&script::parse(&text).expect("it is right")).is_ok(),
-            there.links.is_empty()
+            there.beside.is_empty()
         );
-        links_seen += there.links.len();
-        inner +=
-            there.links.iter().filter(|link| (1..there.bytes.len()).contains(&link.at)).count();
+        let all = there.beside.len();
+        let these = there.beside.iter().filter(|placed| placed.what == Beside::Turn).count();
+        (links, turns) = (links + all - these, turns + these);
+        inner += there.beside.iter().filter(|p| (1..there.bytes.len()).contains(&p.at)).count();
     }
     assert!(
-        links_seen > 50_000 && inner > 40_000,
-        "{links_seen} link orders, {inner} between bytes"
+        links > 30_000 && turns > 200_000 && inner > 200_000,
+        "{links} link orders, {turns} turns, {inner} of both between bytes"
     );
 }
 
@@ -91,32 +93,39 @@ fn link_states_have_names_and_numbers() {
         ("link 0 255", 0, 255, "link 0 255\n"),
     ];
     for (line, index, state, printed) in lines {
-        let Expanded { bytes, links, .. } = expanded(line);
-        assert_eq!(links, [Placed { at: 0, link: Link { index, state } }], "{line}");
+        let Expanded { bytes, beside, .. } = expanded(line);
+        let what = Beside::Link(Link { index, state });
+        assert_eq!(beside, [Placed { at: 0, what }], "{line}");
         assert_eq!(bytes, [], "{line}");
-        assert_eq!(spell::script(&bytes, &links), printed);
+        assert_eq!(spell::script(&bytes, &beside), printed);
     }
 }
 
-/// A link order stands before the byte that follows it, and parts a row of ticks.
+/// What has no byte stands before the byte that follows it, and parts a row of ticks.
 #[test]
-fn link_orders_stand_between_the_bytes() {
-    let text = "link 0 off\non 0 05.01.01.01.01.01\nlink 0 passive\nlink 1 9\ntick 3\nlink 0 off\ntick\nlink 0 active\n";
-    let Expanded { bytes, links, .. } = expanded(text);
+fn link_orders_and_turns_stand_between_the_bytes() {
+    let text =
+        "link 0 off\non 0 05.01.01.01.01.01\nturn\nlink 1 9\ntick 3\nlink 0 off\ntick\nturn\n";
+    let Expanded { bytes, beside, .. } = expanded(text);
     assert_eq!(bytes, bytes_of("on 0 05.01.01.01.01.01\ntick 4"));
-    assert_eq!(links.iter().map(|link| link.at).collect::<Vec<_>>(), [0, 8, 8, 11, 12]);
-    assert_eq!(spell::script(&bytes, &links), text);
+    assert_eq!(beside.iter().map(|placed| placed.at).collect::<Vec<_>>(), [0, 8, 8, 11, 12]);
+    assert_eq!(spell::script(&bytes, &beside), text);
 }
 
-/// In a script that is to be bytes, the first link order is a line that cannot be.
+/// In a script that is to be bytes, the first line that has none is one that cannot be.
 #[test]
-fn link_orders_have_no_byte() {
-    let parsed = |text| script::parse(text).expect("it is right");
-    let faults = script::in_bytes(&parsed("tick\nlink 0 off\n\ntick\nlink 9 9\n"));
-    let faults = faults.expect_err("two link orders");
-    assert_eq!((faults[0].line, faults.len()), (2, 1));
-    assert!(faults[0].why.starts_with("link has no byte in a script"), "{}", faults[0].why);
-    assert_eq!(script::in_bytes(&parsed("tick\nsend all\nbytes FF")), Ok(()));
+fn link_orders_and_turns_have_no_byte() {
+    let parsed = |text: &str| script::parse(text).expect("it is right");
+    for (line, name) in
+        [("link 0 off", "link"), ("turn", "turn"), ("settle 3 turns", "a turn of settle")]
+    {
+        let faults = script::in_bytes(&parsed(&format!("tick\n{line}\n\ntick\nlink 9 9\nturn\n")));
+        let faults = faults.expect_err("three lines have none");
+        assert_eq!((faults[0].line, faults.len()), (2, 1));
+        let why = format!("{name} has no byte in a script, so neither hex nor the program");
+        assert!(faults[0].why.starts_with(&why), "{}", faults[0].why);
+    }
+    assert_eq!(script::in_bytes(&parsed("tick\nsend all\nsettle 3\nbytes FF")), Ok(()));
 }
 
 /// Each command's form, and the bytes that document 01 gives it.
@@ -209,12 +218,12 @@ fn all_goes_by_link_orders_too() {
     let up = "on 2 05.01.01.01.01.01\nsettle 206\n";
     let by_all = expanded(&format!("{up}link 2 passive\nsend all\n"));
     let by_hand = expanded(&format!("{up}link 2 passive\nsend 2\n"));
-    assert_eq!((by_all.bytes, by_all.links), (by_hand.bytes, by_hand.links));
+    assert_eq!((by_all.bytes, by_all.beside), (by_hand.bytes, by_hand.beside));
     assert_eq!(bytes_of(&format!("{up}send all\n")), bytes_of(up));
 }
 
 /// Lines that are wrong, and what is said of each.
-const WRONG: [(&str, &str); 69] = [
+const WRONG: [(&str, &str); 78] = [
     ("sned 0", "\"sned\" is no command; expected one of on, send"),
     ("on", "the index is missing; expected a whole number from 0 to 255"),
     ("on 0", "the Node ID is missing; expected six bytes in hex, as 05.01.01.01.01.01"),
@@ -238,6 +247,27 @@ const WRONG: [(&str, &str); 69] = [
     ("tick 99999999999999999999999", "is no count of ticks"),
     ("settle", "the count of ticks is missing"),
     ("settle x", "\"x\" is no count of ticks"),
+    (
+        "settle turns",
+        "\"turns\" is no count of ticks; expected a whole number from 1 to 65536; \
+         the form is: settle COUNT, or settle COUNT turns",
+    ),
+    (
+        "settle 300 turn",
+        "\"turn\" is no way to settle; expected turns, or nothing behind the count; \
+         the form is: settle COUNT, or settle COUNT turns",
+    ),
+    ("settle 300 3", "\"3\" is no way to settle; expected turns"),
+    ("settle turns 300", "\"turns\" is no count of ticks"),
+    ("settle 300 turns 3", "\"3\" is too much; the form is: settle COUNT, or settle COUNT turns"),
+    ("settle 0 turns", "\"0\" is no count of ticks"),
+    (
+        "turn 3",
+        "\"3\" is too much: the card chooses whose turn it is, and send lets a node of your choice send; \
+         the form is: turn",
+    ),
+    ("turn all", "\"all\" is too much: the card chooses whose turn it is"),
+    ("turns", "\"turns\" is no command; expected one of on, send, fail"),
     ("foreign", "the frame is missing; expected a header of 8 hex digits, or one of CID"),
     ("foreign 1705026", "\"1705026\" is no frame"),
     ("foreign XYZ 263", "\"XYZ\" is no frame"),
@@ -341,19 +371,24 @@ fn nothing_follows_bytes_that_end_the_run() {
     );
 }
 
-/// A link order follows no bytes that end the run, and stands within no command that bytes have begun.
+/// A link order or a turn follows no bytes that end the run, and stands within no command that bytes have begun.
 #[test]
-fn no_link_order_follows_part_of_a_command() {
-    let faults = |text| script::parse(text).expect_err("bytes are open");
-    let after_the_end = faults("tick\nbytes 05 FF\nlink 0 off\n");
-    assert_eq!((after_the_end[0].line, after_the_end.len()), (3, 1));
-    assert!(after_the_end[0].why.contains("have the unknown command FF"), "{after_the_end:?}");
-    let within = faults("bytes 01 00\nlink 0 off\nbytes 05 01 01 01 01 01\n");
-    assert_eq!((within[0].line, within.len()), (2, 1));
-    let why = "the bytes from line 1 on end after 2 of the 8 bytes of command 01";
-    assert!(within[0].why.contains(why), "{within:?}");
-    let whole = expanded("bytes 01 00\nbytes 05 01 01 01 01 01\nlink 0 off\nbytes 05\n");
-    assert_eq!((whole.links[0].at, whole.links.len(), whole.bytes.len()), (8, 1, 9));
+fn nothing_without_a_byte_follows_part_of_a_command() {
+    let faults = |text: &str| script::parse(text).expect_err("bytes are open");
+    for line in ["link 0 off", "turn", "settle 1 turns"] {
+        let after_the_end = faults(&format!("tick\nbytes 05 FF\n{line}\n"));
+        assert_eq!((after_the_end[0].line, after_the_end.len()), (3, 1));
+        assert!(after_the_end[0].why.contains("have the unknown command FF"), "{after_the_end:?}");
+        let within = faults(&format!("bytes 01 00\n{line}\nbytes 05 01 01 01 01 01\n"));
+        assert_eq!((within[0].line, within.len()), (2, 1));
+        let why = "the bytes from line 1 on end after 2 of the 8 bytes of command 01";
+        assert!(within[0].why.contains(why), "{within:?}");
+    }
+    for line in ["link 0 off", "turn"] {
+        let whole = format!("bytes 01 00\nbytes 05 01 01 01 01 01\n{line}\nbytes 05\n");
+        let whole = expanded(&whole);
+        assert_eq!((whole.beside[0].at, whole.beside.len(), whole.bytes.len()), (8, 1, 9));
+    }
 }
 
 #[test]
@@ -392,6 +427,7 @@ fn forms_are_told_apart() {
         ("\u{FEFF}05\r\n", Hex),
         ("send 0 # 05 05", Names),
         ("link 0 off\n05", Names),
+        ("turn\n05", Names),
         (":X17050263N;", Names),
         (":X17050263N;\n05", Names),
         (":x\n:\n05", Names),
@@ -405,40 +441,45 @@ fn forms_are_told_apart() {
     }
 }
 
+/// Words of scripts, right and wrong.
+const WORDS: [&str; 26] = [
+    "on",
+    "send",
+    "foreign",
+    "AMD",
+    "CID",
+    "all",
+    "length",
+    "0",
+    "7",
+    "263",
+    "05.01",
+    "FF",
+    "é",
+    "#",
+    "\n",
+    "bytes",
+    "-1",
+    ".",
+    "link",
+    "off",
+    "bit28",
+    "turn",
+    "settle",
+    "turns",
+    ":X17050263N;",
+    ":X",
+];
+
 /// Whatever stands in a text, it is read or refused, and always by a line that is there.
 #[test]
 fn any_text_is_read_or_refused() {
-    let words = [
-        "on",
-        "send",
-        "foreign",
-        "AMD",
-        "CID",
-        "all",
-        "length",
-        "0",
-        "7",
-        "263",
-        "05.01",
-        "FF",
-        "é",
-        "#",
-        "\n",
-        "bytes",
-        "-1",
-        ".",
-        "link",
-        "off",
-        "bit28",
-        ":X17050263N;",
-        ":X",
-    ];
     let mut random = Random::new(7);
     let (mut read, mut refused) = (0, 0);
     for _ in 0..20_000 {
         let count = random.below(12);
         let text: Vec<&str> =
-            (0..count).map(|_| words[random.below(words.len() as u64) as usize]).collect();
+            (0..count).map(|_| WORDS[random.below(WORDS.len() as u64) as usize]).collect();
         let text = text.join(" ");
         match script::parse(&text) {
             Ok(lines) => read += usize::from(!expand(&lines).bytes.is_empty()),

@@ -155,8 +155,8 @@ fn a_refused_power_on_leaves_the_row_of_its_node() {
 fn moments(mut check: impl FnMut(&Moment, u64)) {
     for seed in 0..SCRIPTS {
         let (script, mut watch) = (expanded(&random::list(seed)), Watch::default());
-        play::play(&script.bytes, &script.links, &mut Card::new(), |turn, card| {
-            check(&watch.look(turn, card), seed);
+        play::play(&script.bytes, &script.beside, &mut Card::new(), |played, card| {
+            check(&watch.look(played, card), seed);
         });
     }
 }
@@ -172,7 +172,7 @@ fn users(seen: &[Seen; PLACES], id: u64) -> Vec<usize> {
 fn a_node_id_is_refused_where_it_is_in_use() {
     let (mut refused, mut on, mut own) = (0, 0, 0);
     moments(|moment, seed| {
-        let why = format!("seed {seed}, {:?}", moment.turn);
+        let why = format!("seed {seed}, {:?}", moment.played);
         for node in &moment.after {
             assert!(users(&moment.after, node.id).len() <= 1, "{why}");
         }
@@ -181,7 +181,7 @@ fn a_node_id_is_refused_where_it_is_in_use() {
         };
         let before = users(&moment.before, id);
         let user = before.iter().copied().find(|&user| user != index);
-        assert_eq!(moment.turn.answer == Answer::Refused(15), user.is_some(), "{why}");
+        assert_eq!(moment.played.answer == Answer::Refused(15), user.is_some(), "{why}");
         assert_eq!(InUse::of(moment).map(|in_use| in_use.user), user, "{why}");
         assert!(user.is_none() || moment.before == moment.after, "{why}");
         refused += usize::from(user.is_some());

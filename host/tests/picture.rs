@@ -191,7 +191,8 @@ fn labels(picture: &str) -> Vec<Label<'_>> {
 
 const LINES: [&str; 2] = ["stood", "waited"];
 const BANDS: [&str; 6] = ["testing", "reserved", "permitted", "leaving", "resting", "silent"];
-const SIGNS: [&str; 7] = ["plate", "on-dark", "shared", "link", "restart", "ring", "cross"];
+const SIGNS: [&str; 9] =
+    ["plate", "on-dark", "shared", "link", "restart", "ring", "cross", "turn", "turn-refused"];
 /// What goes through the rows from top to bottom.
 const CROSSING: [&str; 4] = ["fold", "late", "lead", "shared-way"];
 
@@ -200,7 +201,8 @@ fn lists() -> impl Iterator<Item = String> {
     let random = (0..300).flat_map(|seed| [random::list(seed), random::contest(seed)]);
     let examples = names().into_iter().map(|name| example(&name));
     let crowds = (0..10).map(|seed| random::crowd(seed) + &random::contest(seed));
-    examples.chain(random).chain(crowds).chain((0..40).map(random::neglect))
+    let turns = (0..10).map(|seed| random::by_turns(seed) + "turn\ntick 50\n");
+    examples.chain(random).chain(crowds).chain((0..40).map(random::neglect)).chain(turns)
 }
 
 /// Lines and their texts cover no band, no sign, and no other of them; a text stands in its line, and nothing lies upon it.

@@ -1,4 +1,4 @@
-//! The tool and the program `segment` print the same, line by line. Link orders are the tool's alone.
+//! The tool and the program `segment` print the same, line by line. Link orders and turns are the tool's alone.
 
 mod random;
 
@@ -8,8 +8,10 @@ use std::path::{Path, PathBuf};
 use std::process::{Command, Stdio};
 
 use lcc::actions::fulfil;
-use lcc::script::{self, Item};
+use lcc::card::Card;
+use lcc::expand::expand;
 use lcc::usage::{Options, Wish};
+use lcc::{play, script};
 use random::Random;
 
 const SCRIPTS: u64 = 500;
@@ -74,27 +76,28 @@ fn frames(lines: &str) -> String {
     parts.map(|(header, data)| format!(":X{header}N{data};\n")).collect()
 }
 
-/// The lines of an explanation without their words, and ticks in a row each on its own line.
+/// The lines of an explanation without their words, and each command that one stands for on its own line.
 fn unfolded(explained: &str) -> String {
     let mut lines = String::new();
     for line in explained.lines() {
         let line = line.split("  ").next().expect("a line begins with the program's");
-        match line.strip_suffix(" 05 ok").and_then(|counts| counts.split_once('-')) {
-            Some((first, last)) => {
-                let count = |text: &str| text.parse::<usize>().expect("a count");
-                (count(first)..=count(last)).for_each(|n| lines += &format!("{n} 05 ok\n"));
-            }
-            None => lines += &format!("{line}\n"),
+        let (counts, answers) = line.split_once(' ').unwrap_or((line, ""));
+        let Some((first, last)) = counts.split_once('-') else {
+            lines += &format!("{line}\n");
+            continue;
+        };
+        let count = |text: &str| text.parse::<usize>().expect("a count");
+        for (n, answer) in (count(first)..=count(last)).zip(answers.split(", ").cycle()) {
+            lines += &format!("{n} {answer}\n");
         }
     }
     lines
 }
 
-/// Whether a script has a link order, so that the program cannot play it.
-fn has_a_link_order(file: &Path) -> bool {
+/// Whether a script is bytes alone, so that the program can play it.
+fn is_in_bytes(file: &Path) -> bool {
     let text = fs::read_to_string(file).expect("it can be read");
-    let parsed = script::parse(&text).expect("it is right");
-    parsed.iter().any(|line| matches!(line.item, Item::Link(_)))
+    script::in_bytes(&script::parse(&text).expect("it is right")).is_ok()
 }
 
 #[test]
@@ -102,23 +105,25 @@ fn examples() {
     let (mut through_both, mut through_the_tool) = (0, 0);
     for entry in fs::read_dir(root().join("examples")).expect("there are examples") {
         let file = entry.expect("it can be read").path();
-        if has_a_link_order(&file) {
-            assert!(lines(&file).contains(" link ok\n"), "{} tells no node", file.display());
-            through_the_tool += 1;
-        } else {
+        if is_in_bytes(&file) {
             same(&file);
             through_both += 1;
+        } else {
+            let lines = lines(&file);
+            let has_any = lines.contains(" link ok\n") || lines.contains(" choose ok ");
+            assert!(has_any, "{} tells no node and chooses none", file.display());
+            through_the_tool += 1;
         }
     }
     assert!(
-        through_both >= 6 && through_the_tool >= 1,
+        through_both >= 6 && through_the_tool >= 2,
         "{through_both} examples through both, {through_the_tool} through the tool alone"
     );
 }
 
-/// The lines of a run without those of link orders, counted anew.
-fn without_links(lines: &str) -> String {
-    let others = lines.lines().filter(|line| !line.contains(" link "));
+/// The lines of a run without those that have this word for a byte, counted anew.
+fn without(word: &str, lines: &str) -> String {
+    let others = lines.lines().filter(|line| !line.contains(&format!(" {word} ")));
     let counted = others.enumerate().map(|(at, line)| match line.split_once(' ') {
         Some((_, rest)) => format!("{} {rest}\n", at + 1),
         None => format!("{line}\n"),
@@ -139,7 +144,7 @@ fn refused_link_orders_change_no_other_line() {
             .map(|line| format!("{line}\n"))
             .collect();
         let bytes = fulfil(&Wish::Bytes(written("others.lcc", &others))).expect("it has bytes");
-        assert_eq!(without_links(&played), segment(&bytes), "seed {seed}:\n{text}");
+        assert_eq!(without("link", &played), segment(&bytes), "seed {seed}:\n{text}");
         links += played.matches(" link refused ").count();
     }
     assert!(links > 1_000, "{links} link orders");
@@ -157,6 +162,39 @@ fn random_scripts_with_link_orders() {
         reports += played.matches(" 02 ok 1071").count();
     }
     assert!(accepted > 1_000 && reports > 100, "{accepted} link orders, {reports} error reports");
+}
+
+/// The bytes of a script's commands, with a send in the place of each turn of a node.
+fn with_sends(text: &str) -> Vec<u8> {
+    let (script, mut bytes) = (expand(&script::parse(text).expect("it is right")), Vec::new());
+    play::play(&script.bytes, &script.beside, &mut Card::new(), |played, _| {
+        match (played.command(), played.act) {
+            (Some(command), _) => command.write(&mut bytes),
+            (None, play::Act::Bytes(..)) => bytes.extend(&script.bytes[played.at..]),
+            (None, _) => {}
+        }
+    });
+    bytes
+}
+
+/// A choice changes nothing but who sends: the other lines are those of the program for a script that has the same sends. And they
+/// are the same with each option and without.
+#[test]
+fn turns_are_sends_of_those_that_are_named() {
+    let (mut named, mut nobodys, mut refused) = (0, 0, 0);
+    let few = (0..SCRIPTS).map(|seed| random::script_with(&random::TURNS, &mut Random::new(seed)));
+    for text in few.chain((0..SCRIPTS / 5).map(random::by_turns)) {
+        let played = lines(&written("turns.lcc", &text));
+        assert_eq!(without("choose", &played), segment(&with_sends(&text)), "{text}");
+        let choices = played.matches(" choose ok ").count();
+        let none = played.matches(" choose ok none\n").count();
+        (named, nobodys) = (named + choices - none, nobodys + none);
+        refused += played.matches(" 02 refused 5\n").count();
+    }
+    assert!(
+        named > 3_000 && nobodys > 3_000 && refused > 10,
+        "{named} turns, {nobodys} of nobody, {refused} sends refused by 5"
+    );
 }
 
 #[test]

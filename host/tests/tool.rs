@@ -5,6 +5,8 @@ use std::io::Write;
 use std::path::PathBuf;
 use std::process::{Command, Output, Stdio};
 
+use lcc::card::{NOBODY, PLACES, TEXT_MAX, WORDS};
+
 /// Runs the tool on a script at standard input.
 fn lcc(words: &[&str], script: &str) -> Output {
     let mut child = Command::new(env!("CARGO_BIN_EXE_lcc"))
@@ -334,28 +336,40 @@ fn link_orders_are_played() {
 
 /// What has no byte is not turned into bytes: nothing is printed, and what would be right is said.
 #[test]
-fn link_orders_are_not_for_the_program() {
-    let script = "tick\nlink 0 off\nlink 0 9\n";
-    for wish in ["bytes", "hex"] {
-        let output = lcc(&[wish, "-"], script);
-        assert_eq!((output.status.code(), out(&output).as_str()), (Some(2), ""), "{wish}");
-        let why = "lcc: standard input: line 2: link has no byte in a script, so neither hex nor the program can have it; \
-                   play it with --explain, --summary, --picture or --grid\n";
-        assert_eq!(err(&output), why, "{wish}");
+fn link_orders_and_turns_are_not_for_the_program() {
+    let scripts = [
+        ("tick\nlink 0 off\nlink 0 9\n", "link", "tick\nlink 0 off\nlink 0 9\n"),
+        ("tick\nturn\nlink 0 9\n", "turn", "tick\nturn\nlink 0 9\n"),
+        ("tick\nsettle 2 turns\n", "a turn of settle", "tick\nturn\ntick\nturn\ntick\n"),
+    ];
+    for (script, name, names) in scripts {
+        for wish in ["bytes", "hex"] {
+            let output = lcc(&[wish, "-"], script);
+            assert_eq!((output.status.code(), out(&output).as_str()), (Some(2), ""), "{wish}");
+            let why = format!(
+                "lcc: standard input: line 2: {name} has no byte in a script, so neither hex nor the program can have it; \
+                 play it with --explain, --summary, --picture or --grid\n"
+            );
+            assert_eq!(err(&output), why, "{wish}");
+        }
+        let output = lcc(&["names", "-"], script);
+        assert_eq!((output.status.code(), out(&output).as_str()), (Some(0), names));
     }
-    let output = lcc(&["names", "-"], script);
-    assert_eq!((output.status.code(), out(&output).as_str()), (Some(0), script));
 }
 
-/// The limit counts bytes: a link order right after the last of them is carried out, and none behind it.
+/// The limit counts bytes: a link order or a turn right after the last of them is carried out, and none behind it.
 #[test]
-fn link_orders_do_not_count_for_the_limit() {
+fn link_orders_and_turns_do_not_count_for_the_limit() {
     let text = out(&lcc(&["run", "-"], "tick 65536\nlink 0 off\n"));
     assert!(text.ends_with("65536 05 ok\n65537 link refused 2\nkept\n"));
     let text = out(&lcc(&["run", "-"], "tick 65535\nsend 0\nlink 0 off\n"));
     assert!(text.ends_with("65535 05 ok\n65536 02 refused 11\nkept\n"));
     let text = out(&lcc(&["run", "-"], "link 0 off\ntick 65536\ntick\nlink 0 off\n"));
     assert!(text.ends_with("65536 05 ok\n65537 05 ok\nkept\n"));
+    let text = out(&lcc(&["run", "-"], "tick 65528\non 0 050101010101\nturn\nturn\ntick\nturn\n"));
+    let last =
+        "65530 choose ok 0\n65531 02 ok 17050263\n65532 choose ok 0\n65533 02 ok 16101263\nkept\n";
+    assert!(text.ends_with(last), "{}", &text[text.len() - 200..]);
 }
 
 /// Link orders that were accepted stand below the table and on the node's line, and only where there are some.
@@ -455,12 +469,19 @@ fn the_table_has_a_row_for_each_exhibit() {
     );
 }
 
-/// The table and the text that are lent to the library have the words and bytes that its header asks for.
+/// The table and the text that are lent to the library have the words and bytes that its header asks for; its nodes are as many, and
+/// nobody has the same number.
 #[test]
 fn the_words_are_those_of_the_header() {
     let header = fs::read_to_string(concat!(env!("CARGO_MANIFEST_DIR"), "/../c/card.h"))
         .expect("it is there");
-    for (name, size) in [("CARD_WORDS", lcc::card::WORDS), ("GRID_TEXT_MAX", lcc::card::TEXT_MAX)] {
+    let numbers = [
+        ("CARD_WORDS", WORDS),
+        ("CARD_NODES", PLACES),
+        ("CARD_NOBODY", NOBODY as usize),
+        ("GRID_TEXT_MAX", TEXT_MAX),
+    ];
+    for (name, size) in numbers {
         let line = format!("#define {name} {size}");
         assert!(header.lines().any(|found| found == line), "c/card.h has no line {line}");
     }

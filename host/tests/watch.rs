@@ -24,8 +24,8 @@ fn moments(seed: u64, mut check: impl FnMut(&Moment, Option<Frame>)) {
     let script = expanded(&random::list(seed));
     let mut watch = Watch::default();
     let mut first = [None; PLACES];
-    play::play(&script.bytes, &script.links, &mut Card::new(), |turn, card| {
-        let moment = watch.look(turn, card);
+    play::play(&script.bytes, &script.beside, &mut Card::new(), |played, card| {
+        let moment = watch.look(played, card);
         check(&moment, moment.node().and_then(|index| first[index]));
         first = std::array::from_fn(|index| card.inbox(index, 0));
     });
@@ -43,7 +43,7 @@ fn what_is_delivered_is_what_stood_first() {
                 moment.delivered.map(|arrival| arrival.frame),
                 expected,
                 "seed {seed}, {:?}",
-                moment.turn
+                moment.played
             );
             deliveries += usize::from(delivers);
             collisions += usize::from(moment.node().is_some_and(|index| moment.collided(index)));
@@ -67,7 +67,7 @@ fn a_frame_that_collides_has_the_alias() {
                     arrival.frame.alias(),
                     moment.before[index].alias,
                     "seed {seed}, {:?}",
-                    moment.turn
+                    moment.played
                 );
             }
         });
@@ -81,7 +81,7 @@ fn what_is_late_is_41_ticks_old() {
     for seed in 0..SCRIPTS {
         moments(seed, |moment, _| {
             let Some(Late { tick, what, .. }) = moment.late else { return };
-            assert_eq!(what.age(tick), 41, "seed {seed}, {:?}", moment.turn);
+            assert_eq!(what.age(tick), 41, "seed {seed}, {:?}", moment.played);
             stood += usize::from(matches!(what, Aged::Inbox(_)));
             waited += usize::from(matches!(what, Aged::Due(_)));
         });
@@ -96,9 +96,9 @@ fn the_card_is_late_by_the_greatest_ages() {
     for seed in 0..SCRIPTS {
         let (mut watch, mut last) = (Watch::default(), Ages::default());
         let script = expanded(&random::list(seed));
-        play::play(&script.bytes, &script.links, &mut Card::new(), |turn, card| {
-            last = watch.look(turn, card).longest;
-            assert_eq!(last.are_kept(), !card.is_late(), "seed {seed}, {last:?}, {turn:?}");
+        play::play(&script.bytes, &script.beside, &mut Card::new(), |played, card| {
+            last = watch.look(played, card).longest;
+            assert_eq!(last.are_kept(), !card.is_late(), "seed {seed}, {last:?}, {played:?}");
         });
         stood += usize::from(!Ages { waited: 0, ..last }.are_kept());
         waited += usize::from(!Ages { stood: 0, ..last }.are_kept());
@@ -120,14 +120,14 @@ fn aliases_are_single_while_the_sums_are_low() {
         for script in [random::list(seed), random::contest(seed)] {
             let (script, mut watch) = (expanded(&script), Watch::default());
             let (mut was_shared, mut single_while_late) = (false, false);
-            play::play(&script.bytes, &script.links, &mut Card::new(), |turn, card| {
-                let moment = watch.look(turn, card);
+            play::play(&script.bytes, &script.beside, &mut Card::new(), |played, card| {
+                let moment = watch.look(played, card);
                 let is_shared = is_shared(&moment.after);
                 let single = moment.longest.keep_aliases_single();
-                assert!(!(single && is_shared), "seed {seed}, {turn:?}");
+                assert!(!(single && is_shared), "seed {seed}, {played:?}");
                 let told = Shared::of(&moment).is_some();
-                assert!(!told || is_shared, "seed {seed}, {turn:?}");
-                assert!(told || was_shared || !is_shared, "seed {seed}, {turn:?}");
+                assert!(!told || is_shared, "seed {seed}, {played:?}");
+                assert!(told || was_shared || !is_shared, "seed {seed}, {played:?}");
                 was_shared = is_shared;
                 single_while_late = single && card.is_late();
                 shared += usize::from(told);
@@ -144,8 +144,8 @@ fn whatever_is_late_has_a_cause() {
     for seed in 0..SCRIPTS {
         let (mut card, mut watch, mut named) = (Card::new(), Watch::default(), false);
         let script = expanded(&random::list(seed));
-        play::play(&script.bytes, &script.links, &mut card, |turn, card| {
-            named |= watch.look(turn, card).late.is_some()
+        play::play(&script.bytes, &script.beside, &mut card, |played, card| {
+            named |= watch.look(played, card).late.is_some()
         });
         assert_eq!(named, card.is_late(), "seed {seed}");
     }
@@ -166,11 +166,11 @@ fn by_a_link_order_an_error_report_is_due_or_nothing() {
             };
             let mut expected = moment.before;
             expected[told.index].due = told.due.or(expected[told.index].due);
-            assert_eq!(moment.after, expected, "seed {seed}, {:?}", moment.turn);
+            assert_eq!(moment.after, expected, "seed {seed}, {:?}", moment.played);
             let report = |frame: Frame| matches!(frame.sort(), Some(Sort::ErrorReport(_)));
-            assert!(told.due.is_none_or(report), "seed {seed}, {:?}", moment.turn);
+            assert!(told.due.is_none_or(report), "seed {seed}, {:?}", moment.played);
             let permitted = moment.after[told.index].state == State::Permitted;
-            assert!(permitted || told.due.is_none(), "seed {seed}, {:?}", moment.turn);
+            assert!(permitted || told.due.is_none(), "seed {seed}, {:?}", moment.played);
             reports += usize::from(told.due.is_some());
             others += usize::from(told.due.is_none());
         });
@@ -183,7 +183,7 @@ fn by_a_link_order_an_error_report_is_due_or_nothing() {
 fn frames_come_onto_the_bus_by_send_and_foreign_alone() {
     for seed in 0..SCRIPTS {
         moments(seed, |moment, _| {
-            let sent = matches!(moment.turn.answer, Answer::Sent(_));
+            let sent = matches!(moment.played.answer, Answer::Sent(_));
             let foreign =
                 matches!(moment.command(), Some(Command::Foreign(_))) && moment.accepted();
             assert_eq!(moment.on_the_bus().is_some(), sent || foreign, "seed {seed}");

@@ -13,6 +13,7 @@ use super::rows::Rows;
 use super::shared;
 use super::style::{class_of, is_dark, styles, DEFINITIONS};
 use super::svg::{number, Anchor, Svg};
+use super::turns;
 use crate::hex::dotted_id;
 use crate::summary::{totals, Collision};
 use crate::watch::{Late, Sender};
@@ -58,6 +59,7 @@ pub fn draw(record: &Record, name: &str, last: &str) -> String {
     page.title(&mut svg, name, last);
     page.time(&mut svg);
     page.exhibits(&mut svg);
+    turns::draw(&mut svg, &page);
     page.lanes.draw(&mut svg, record, &page.axis, &page.hits());
     page.lines.iter().for_each(|line| line.draw(&mut svg, &page));
     page.folds(&mut svg);
@@ -142,6 +144,7 @@ impl Page<'_> {
         Signs {
             bit_28: self.record.frames.iter().any(|on_bus| on_bus.frame.has_bit_28_as_0()),
             links: !self.record.links.is_empty(),
+            turns: !self.record.turns.is_empty(),
             lines: LineSort::all_of(self.lines.iter()),
             shared: !self.record.shared.is_empty(),
         }
@@ -157,9 +160,13 @@ impl Page<'_> {
         svg.text(MARGIN, 36.0, "title", Anchor::Start, name);
         let collisions = words::count(record.collisions.len(), "collision", "collisions");
         let frames = words::count(record.frames.len(), "frame", "frames");
+        let turns = match record.turns.len() {
+            0 => String::new(),
+            turns => words::count(turns, "turn", "turns") + ", ",
+        };
         let ticks = words::count(record.ticks, "tick", "ticks");
-        let line =
-            format!("{} {collisions}, {frames} on the bus, {ticks} of 1 ms.", totals(&record.seen));
+        let totals = totals(&record.seen);
+        let line = format!("{totals} {collisions}, {frames} on the bus, {turns}{ticks} of 1 ms.");
         svg.text(MARGIN, 56.0, "subtitle", Anchor::Start, &line);
         let (class, verdict) = match &record.late {
             Some(late) => (late_class(&words::late(late)), words::late(late)),

@@ -6,6 +6,7 @@ use super::overdue::LineSort;
 use super::shared;
 use super::style::class_of;
 use super::svg::{Anchor, Svg};
+use super::turns;
 use crate::ages::KEPT;
 use crate::card::State;
 use crate::link::STATES;
@@ -18,6 +19,7 @@ pub struct Signs {
     /// Frames that came with bit 28 as 0.
     pub bit_28: bool,
     pub links: bool,
+    pub turns: bool,
     /// The sorts of lines of what was overdue.
     pub lines: Vec<LineSort>,
     pub shared: bool,
@@ -29,8 +31,8 @@ impl Signs {
     }
 }
 
-/// Two rows: the states, then the other signs; one more where frames came with bit 28 as 0, one where link orders are drawn, and one
-/// where something was overdue. Gives how high they are.
+/// Two rows: the states, then the other signs; one more where frames came with bit 28 as 0, one where link orders are drawn, one where
+/// turns are, and one where something was overdue. Gives how high they are.
 pub fn draw(svg: &mut Svg, left: f64, top: f64, drawn: &Signs) -> f64 {
     let mut x = left;
     for state in &State::ALL[1..] {
@@ -54,6 +56,10 @@ pub fn draw(svg: &mut Svg, left: f64, top: f64, drawn: &Signs) -> f64 {
     if drawn.links {
         below += ROW;
         link_signs(svg, left, top + 30.0 + below);
+    }
+    if drawn.turns {
+        below += ROW;
+        turns::signs(svg, left, top + 30.0 + below);
     }
     if drawn.overdue() {
         below += ROW;

@@ -11,6 +11,7 @@ mod rows;
 mod shared;
 mod style;
 mod svg;
+mod turns;
 
 pub use draw::draw;
 pub use record::Record;

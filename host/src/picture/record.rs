@@ -1,5 +1,5 @@
-//! What a run gives to draw: the steps at which something was to be seen, bands, frames, collisions, restarts, link orders, what
-//! stood or waited too long, and aliases that two nodes came to use.
+//! What a run gives to draw: the steps at which something was to be seen, bands, frames, collisions, restarts, link orders, turns,
+//! what stood or waited too long, and aliases that two nodes came to use.
 
 use crate::card::{Seen, State, PLACES};
 use crate::command::Command;
@@ -7,6 +7,7 @@ use crate::frame::Frame;
 use crate::shared::Shared;
 use crate::summary::Collision;
 use crate::told::Told;
+use crate::turn::Choice;
 use crate::watch::{Aged, Late, Moment, Sender};
 
 /// A command that is drawn, after how many ticks, and how much room it takes beside a frame on the bus. Its count names it.
@@ -32,6 +33,27 @@ pub struct OnBus {
     pub from: Sender,
 }
 
+/// A node's turn: by which command it sent, or was refused, and the choice that named it.
+pub struct Turn {
+    pub count: usize,
+    pub index: usize,
+    pub choice: Choice,
+    pub sends: bool,
+}
+
+impl Turn {
+    fn of(moment: &Moment) -> Option<Turn> {
+        let (choice, index) = (moment.turn?, moment.node()?);
+        Some(Turn { count: moment.played.count, index, choice, sends: moment.accepted() })
+    }
+
+    /// Whose turn it was and why, and where it did not send, that too.
+    pub fn words(&self) -> String {
+        let refused = if self.sends { "" } else { "; its send is refused" };
+        self.choice.words() + refused
+    }
+}
+
 /// What stood or waited too long, and its end: after how many ticks and by which command.
 pub struct Overdue {
     pub frame: Aged,
@@ -50,6 +72,7 @@ pub struct Record {
     /// Starts with the next alias that no delivered frame caused.
     pub restarts: Vec<(usize, usize)>,
     pub links: Vec<Told>,
+    pub turns: Vec<Turn>,
     /// Of each node, in the order in which they came.
     pub overdue: [Vec<Overdue>; PLACES],
     pub shared: Vec<Shared>,
@@ -64,12 +87,12 @@ impl Record {
         self.seen = moment.after;
         self.overdue(moment);
         let changed: Vec<usize> = (0..PLACES).filter(|&index| is_new_band(moment, index)).collect();
-        let (on_the_bus, told) = (moment.on_the_bus(), Told::of(moment));
-        let seen = on_the_bus.is_some() || told.is_some() || moment.late.is_some();
-        if changed.is_empty() && !seen {
+        let (on_the_bus, told, turn) = (moment.on_the_bus(), Told::of(moment), Turn::of(moment));
+        let seen = on_the_bus.is_some() || told.is_some() || turn.is_some();
+        if changed.is_empty() && !seen && moment.late.is_none() {
             return;
         }
-        let count = moment.turn.count;
+        let count = moment.played.count;
         self.steps.push(Step { count, tick: moment.tick, weight: weight(moment) });
         for index in changed {
             self.band(moment, index);
@@ -84,6 +107,7 @@ impl Record {
         }
         self.shared.extend(Shared::of(moment));
         self.links.extend(told);
+        self.turns.extend(turn);
         self.late = self.late.or(moment.late);
     }
 
@@ -101,13 +125,15 @@ impl Record {
         }
         for (index, frame) in &moment.ended {
             let found = self.overdue[*index].iter_mut().rev().find(|other| other.frame == *frame);
-            found.into_iter().for_each(|found| found.end = Some((moment.tick, moment.turn.count)));
+            found
+                .into_iter()
+                .for_each(|found| found.end = Some((moment.tick, moment.played.count)));
         }
     }
 
     /// Ends the band of a node, and begins its next.
     fn band(&mut self, moment: &Moment, index: usize) {
-        let count = moment.turn.count;
+        let count = moment.played.count;
         let bands = &mut self.bands[index];
         if let Some(last) = bands.last_mut() {
             last.to = Some(count);

@@ -1,24 +1,31 @@
-//! The rows: one for each node that was ever on. A row has the node's bands, and below them a track for each sort of lines that the
-//! node has, so that nothing lies on a band.
+//! The rows: one for each node that was ever on. A row has the node's bands, and below them a strip for its turns, where the drawing
+//! has some, and a track for each sort of lines that the node has, so that nothing lies on a band.
 
 use super::overdue::{Line, LineSort};
 use super::record::Record;
 
-/// How high the bands' part of a row is, how high a track, and what parts tracks from the next row.
+/// How high the bands' part of a row is, how high the strip of turns, how high a track, and what parts tracks from the next row.
 const BANDS: f64 = 20.0;
+pub const STRIP: f64 = 5.0;
 pub const TRACK: f64 = 11.0;
 const APART: f64 = 5.0;
 
 struct Row {
     index: usize,
     top: f64,
+    has_strip: bool,
     tracks: Vec<LineSort>,
 }
 
 impl Row {
-    fn height(&self) -> f64 {
+    /// Where its tracks begin.
+    fn tracks_top(&self) -> f64 {
+        self.top + BANDS + if self.has_strip { STRIP } else { 0.0 }
+    }
+
+    fn bottom(&self) -> f64 {
         let apart = if self.tracks.is_empty() { 0.0 } else { APART };
-        BANDS + TRACK * self.tracks.len() as f64 + apart
+        self.tracks_top() + TRACK * self.tracks.len() as f64 + apart
     }
 }
 
@@ -30,10 +37,11 @@ pub struct Rows {
 impl Rows {
     pub fn new(record: &Record, lines: &[Line], top: f64) -> Rows {
         let mut rows = Rows { rows: Vec::new(), top };
+        let has_strip = !record.turns.is_empty();
         for index in record.rows() {
             let tracks = LineSort::all_of(lines.iter().filter(|line| line.index == index));
-            let top = rows.rows.last().map_or(top, |row| row.top + row.height());
-            rows.rows.push(Row { index, top, tracks });
+            let top = rows.rows.last().map_or(top, Row::bottom);
+            rows.rows.push(Row { index, top, has_strip, tracks });
         }
         rows
     }
@@ -45,7 +53,7 @@ impl Rows {
 
     /// Where the rows end; without any there is room for a sentence.
     pub fn bottom(&self) -> f64 {
-        self.rows.last().map_or(self.top + BANDS, |row| row.top + row.height())
+        self.rows.last().map_or(self.top + BANDS, Row::bottom)
     }
 
     fn row(&self, index: usize) -> &Row {
@@ -58,10 +66,15 @@ impl Rows {
         self.row(index).top + BANDS / 2.0
     }
 
+    /// The top of the strip of a node's turns, close to its bands.
+    pub fn strip(&self, index: usize) -> f64 {
+        self.row(index).top + BANDS - 1.5
+    }
+
     /// The middle of the track of a node's lines of this sort.
     pub fn track(&self, index: usize, sort: LineSort) -> f64 {
         let row = self.row(index);
         let before = row.tracks.iter().take_while(|other| **other != sort).count();
-        row.top + BANDS + TRACK * (before as f64 + 0.5)
+        row.tracks_top() + TRACK * (before as f64 + 0.5)
     }
 }

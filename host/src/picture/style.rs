@@ -26,6 +26,7 @@ pub fn styles(drawn: &Signs) -> String {
     let parts = [
         (drawn.bit_28, BIT_28),
         (drawn.links, LINK),
+        (drawn.turns, TURN),
         (drawn.overdue(), OVERDUE),
         (drawn.shared, SHARED),
     ];
@@ -41,6 +42,12 @@ const BIT_28: &str = r##"<style>
 
 const LINK: &str = r##"<style>
 .link { fill: #fff; stroke: #111; stroke-width: 1.2; }
+</style>
+"##;
+
+/// Black both, and told apart by their shapes.
+const TURN: &str = r##"<style>
+.turn, .turn-refused { fill: #111; }
 </style>
 "##;
 

@@ -1,4 +1,4 @@
-//! Random scripts by name, drawn from a seed, with link orders or without. Not every test has a use for all of it.
+//! Random scripts by name, drawn from a seed, with link orders and turns or without. Not every test has a use for all of it.
 #![allow(dead_code)]
 
 /// A generator of random numbers; the same seed gives the same ones.
@@ -40,18 +40,27 @@ pub const LINKS: [&str; 10] = [
 ];
 pub const REFUSED_LINKS: [&str; 4] = ["link 24 active", "link 255 3", "link 0 3", "link 1 255"];
 
+/// Turns, one by one and of `settle`.
+pub const TURNS: [&str; 6] =
+    ["turn", "turn", "TURN", "settle 1 turns", "settle 7 Turns", "settle 50 turns"];
+
+/// All lines that have no byte.
+pub fn beside() -> Vec<&'static str> {
+    [&LINKS[..], &TURNS].concat()
+}
+
 /// A script by name of up to 40 lines. Few nodes, Node IDs and aliases, so that much collides.
 pub fn script(random: &mut Random) -> String {
     script_of(random, line)
 }
 
-/// Such a script in which every third line is one of these link orders.
-pub fn script_with(links: &[&str], random: &mut Random) -> String {
+/// Such a script in which every third line is one of these.
+pub fn script_with(lines: &[&str], random: &mut Random) -> String {
     script_of(
         random,
         |random| {
             if random.one_in(3) {
-                random.pick(links).into()
+                random.pick(lines).into()
             } else {
                 line(random)
             }
@@ -60,7 +69,7 @@ pub fn script_with(links: &[&str], random: &mut Random) -> String {
 }
 
 /// A script that in two of three cases goes on from nodes that are up, with a reply RID or an AMR due at one of them; half of them
-/// with link orders.
+/// with link orders, and a quarter with turns.
 pub fn list(seed: u64) -> String {
     let up = "on 0 050101010101\non 1 050101010102\nsettle 206\n";
     let before = match seed % 3 {
@@ -70,8 +79,9 @@ pub fn list(seed: u64) -> String {
     };
     let random = &mut Random::new(seed);
     before
-        + &match seed % 2 {
+        + &match seed % 4 {
             0 => script(random),
+            2 => script_with(&TURNS, random),
             _ => script_with(&LINKS, random),
         }
 }
@@ -103,6 +113,30 @@ pub fn crowd(seed: u64) -> String {
             3 => "deliver all\nsend all\n".into(),
             4 => format!("foreign CID 7 {}\n", random.pick(&["362", "363", "36A"])),
             _ => format!("tick {}\n", 20 + random.below(50)),
+        };
+    }
+    text
+}
+
+/// Some nodes up to all, up or still in test, that send by turns: many have messages due, some are left out, and inboxes become full.
+pub fn by_turns(seed: u64) -> String {
+    let random = &mut Random::new(seed);
+    let nodes = 2 * (1 + random.below(12));
+    let mut text = pairs_on(nodes, 0x0501_0101_0200);
+    text += random.pick(&["settle 300 turns\n", "settle 30 turns\n", "settle 210\n", ""]);
+    for _ in 0..40 {
+        let index = random.below(nodes);
+        text += &match random.below(8) {
+            0 => format!("on {index} 0501010103{index:02X}\n"),
+            1 => format!("release {index}\nforeign AME 111\n"),
+            2 => format!("send {index}\nfail {index}\n"),
+            3 => "deliver all\n".into(),
+            4 => format!("settle {} turns\n", 1 + random.below(20)),
+            5 => "turn\n".repeat(1 + random.below(20) as usize),
+            _ => (0..nodes)
+                .step_by(1 + index as usize)
+                .map(|i| format!("message {i} 05B4\n"))
+                .collect(),
         };
     }
     text

@@ -31,8 +31,8 @@ pub fn shown_of(script: &Expanded, paint: Paint) -> Shown {
     let (mut card, mut watch, mut explain) = (Card::new(), Watch::default(), Explain::new(paint));
     let (mut summary, mut record) = (Summary::default(), Record::default());
     let mut longest = Ages::default();
-    play::play(&script.bytes, &script.links, &mut card, |turn, card| {
-        let moment = watch.look(turn, card);
+    play::play(&script.bytes, &script.beside, &mut card, |played, card| {
+        let moment = watch.look(played, card);
         explain.note(&moment);
         summary.note(&moment);
         record.note(&moment);
