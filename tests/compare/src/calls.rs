@@ -1,11 +1,13 @@
 //! Single calls, the proved ones and the same in plain Rust: power-on beside 23 others, looking up in a full map, noting, reading and
-//! writing headers and GridConnect text. A call of the library goes through a pointer, which the linker fills in; so does one in
-//! plain Rust, which is not inlined either.
+//! writing headers and GridConnect text, choices. A call of the library goes through a pointer, which the linker fills in; so does one
+//! in plain Rust, which is not inlined either.
+
+pub mod turns;
 
 use crate::card::{read_grid, read_header, write_grid, write_header, Card, ProvedMap, GRID_TEXT_MAX};
-use crate::operations::gridconnect::words;
 use crate::operations::headers::{parts, write};
 use crate::operations::put_out;
+use crate::operations::seen::words_but_kind;
 use reference::generate::grid_texts::{any_header, text_of};
 use reference::generate::prng::Prng;
 use reference::{gridconnect, header};
@@ -41,7 +43,8 @@ fn full() -> (ProvedMap, AliasMap) {
 }
 
 /// As the call for C has it: the answer is 0 or the refusal's number; what a look-up found and how many entries it compared, or the
-/// parts or the frame that were read, or the header or the length that was written, go into words that are lent.
+/// parts or the frame that were read, or the header or the length that was written, or who was chosen, or the frame that left, go
+/// into words that are lent.
 fn as_for_c<const N: usize>(answer: Result<[u64; N], Refusal>, lent: &mut [u64; N]) -> u64 {
     match answer {
         Ok(words) => {
@@ -84,7 +87,7 @@ fn plain_write_grid(text: &mut [u8], header: u32, len: u8, bytes: u64, written: 
 
 #[inline(never)]
 fn plain_read_grid(text: &[u8], frame: &mut [u64; 3]) -> u64 {
-    as_for_c(gridconnect::read(text).map(words), frame)
+    as_for_c(gridconnect::read(text).map(words_but_kind), frame)
 }
 
 /// Looking `key` up in a full map, which gives these two words, or 13 where there are none.

@@ -11,6 +11,7 @@ const GUARD: usize = 16;
 pub const MARK: u64 = 0x9E37_79B9_7F4A_7C15;
 
 /// So many words between guards.
+#[derive(Clone)]
 struct Guarded<const ALL: usize> {
     all: [u64; ALL],
 }
@@ -34,6 +35,7 @@ impl<const ALL: usize> Guarded<ALL> {
 }
 
 /// A table.
+#[derive(Clone)]
 pub struct Card {
     words: Guarded<{ GUARD + CARD_WORDS + GUARD }>,
 }
@@ -111,6 +113,11 @@ impl Card {
 
     pub fn link(&mut self, index: usize, state: u8) -> u64 {
         unsafe { card_link(self.table(), index, state) }
+    }
+
+    /// An index, 24 for none.
+    pub fn choose(&mut self, chosen: &mut [u64; 1]) -> u64 {
+        unsafe { card_choose(self.table(), chosen.as_mut_ptr()) }
     }
 
     pub fn look(&self, index: usize, seen: &mut [u64; 12]) -> u64 {

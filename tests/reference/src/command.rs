@@ -1,11 +1,20 @@
 //! The commands of a list: nine that are read from and written to the bytes of a script, and the
-//! link order, which no script can carry.
+//! link order and the choice, which no script can carry.
 
 use crate::frame::Frame;
 use crate::refusal::Refusal;
 
-/// Accepted, for a send with the frame that left, or refused.
-pub type Answer = Result<Option<Frame>, Refusal>;
+/// What an accepted command gives: a send the frame that left, a choice the index that it names, if
+/// it names one.
+#[derive(Clone, Copy, Debug, PartialEq, Eq)]
+pub enum Given {
+    Nothing,
+    Sent(Frame),
+    Chosen(Option<usize>),
+}
+
+/// Accepted, with what the command gives, or refused.
+pub type Answer = Result<Given, Refusal>;
 
 #[derive(Clone, Copy, Debug, PartialEq, Eq)]
 pub enum Command {
@@ -19,6 +28,7 @@ pub enum Command {
     Enquiry { index: u8, len: u8, id: [u8; 6] },
     Release { index: u8 },
     Link { index: u8, state: u8 },
+    Choose,
 }
 
 /// How many operand bytes each of the commands 01 to 09 has.
@@ -26,7 +36,7 @@ pub const OPERANDS: [usize; 9] = [7, 1, 1, 1, 0, 14, 12, 8, 1];
 
 impl Command {
     /// Reads the first command and gives the rest after it; 10 unknown, 11 cut short. No byte is
-    /// the link order's.
+    /// the link order's or the choice's.
     #[inline]
     pub fn read(script: &[u8]) -> Result<(Command, &[u8]), Refusal> {
         let (&byte, rest) = script.split_first().ok_or(Refusal::CutShort)?;
@@ -61,7 +71,7 @@ impl Command {
         Command::Enquiry { index, len, id }
     }
 
-    /// The byte that names the command in a script; the link order has none.
+    /// The byte that names the command in a script; the link order and the choice have none.
     pub fn byte(&self) -> Option<u8> {
         match self {
             Command::PowerOn { .. } => Some(0x01),
@@ -73,15 +83,15 @@ impl Command {
             Command::Message { .. } => Some(0x07),
             Command::Enquiry { .. } => Some(0x08),
             Command::Release { .. } => Some(0x09),
-            Command::Link { .. } => None,
+            Command::Link { .. } | Command::Choose => None,
         }
     }
 
-    /// Writes the command's bytes at the end of a script: none for the link order.
+    /// Writes the command's bytes at the end of a script: none for the link order and the choice.
     pub fn write(&self, script: &mut Vec<u8>) {
         script.extend(self.byte());
         match *self {
-            Command::Tick | Command::Link { .. } => {}
+            Command::Tick | Command::Link { .. } | Command::Choose => {}
             Command::Send { index }
             | Command::FailedSend { index }
             | Command::Deliver { index }

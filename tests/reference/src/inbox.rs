@@ -2,6 +2,7 @@
 
 use crate::frame::Frame;
 
+#[derive(Clone)]
 pub struct Inbox {
     slots: [(Frame, u64); Inbox::ROOM],
     head: u8,

@@ -1,4 +1,4 @@
-//! Another implementation of document 01, with requests A.1 to A.7 of document 02, without proofs: the
+//! Another implementation of document 01, with requests A.1 to A.8 of document 02, without proofs: the
 //! peer for tests and for speed.
 
 pub mod alias;
@@ -14,12 +14,13 @@ pub mod node;
 pub mod refusal;
 pub mod script;
 pub mod segment;
+pub mod turns;
 pub mod watch;
 
 pub mod generate;
 
 pub use alias::{first_alias, next_alias, Alias};
-pub use command::{whole_commands, Answer, Command};
+pub use command::{whole_commands, Answer, Command, Given};
 pub use frame::Frame;
 pub use limits::Limits;
 pub use link::Link;
@@ -28,4 +29,5 @@ pub use node::{Node, State};
 pub use refusal::Refusal;
 pub use script::{run, run_program};
 pub use segment::{claim_holds, node_ids_differ, Segment, View};
+pub use turns::Turns;
 pub use watch::Watch;

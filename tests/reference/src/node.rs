@@ -63,6 +63,11 @@ pub struct Waiting {
 impl Waiting {
     pub const NOTHING: Waiting =
         Waiting { reply: false, amd: false, report: false, error: None, host: None };
+
+    /// Whether anything does.
+    pub fn any(&self) -> bool {
+        self.reply || self.amd || self.report || self.error.is_some() || self.host.is_some()
+    }
 }
 
 /// What must leave in time: a reply RID or an AMR.
@@ -176,6 +181,16 @@ impl Node {
             Phase::Permitted => self.first_waiting(),
             Phase::Leaving { .. } => Some(self.with_own_id(AMR)),
             Phase::Off | Phase::Wait(_) | Phase::Resting | Phase::Silent => None,
+        }
+    }
+
+    /// Whether a frame is due. It is not made for that.
+    #[inline]
+    pub fn has_due(&self) -> bool {
+        match self.phase {
+            Phase::Check(_) | Phase::Reserve | Phase::Reserved | Phase::Leaving { .. } => true,
+            Phase::Permitted => self.waiting.any(),
+            Phase::Off | Phase::Wait(_) | Phase::Resting | Phase::Silent => false,
         }
     }
 

@@ -1,6 +1,6 @@
 //! The program: a script's whole output, one line for each command and a last word.
 
-use crate::command::{Answer, Command};
+use crate::command::{Answer, Command, Given};
 use crate::segment::Segment;
 
 /// The program reads so many bytes of its input.
@@ -42,8 +42,7 @@ fn write_line(out: &mut Vec<u8>, count: u64, byte: u8, answer: &Answer) {
     out.push(b' ');
     write_hex(out, &[byte]);
     match answer {
-        Ok(None) => out.extend_from_slice(b" ok"),
-        Ok(Some(frame)) => {
+        Ok(Given::Sent(frame)) => {
             out.extend_from_slice(b" ok ");
             write_hex(out, &frame.header.to_be_bytes());
             if frame.len > 0 {
@@ -51,6 +50,7 @@ fn write_line(out: &mut Vec<u8>, count: u64, byte: u8, answer: &Answer) {
                 write_hex(out, frame.bytes());
             }
         }
+        Ok(_) => out.extend_from_slice(b" ok"),
         Err(refusal) => {
             out.extend_from_slice(b" refused ");
             write_decimal(out, u64::from(refusal.number()));

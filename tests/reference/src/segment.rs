@@ -1,13 +1,14 @@
-//! The segment: 24 nodes with inboxes, ages, the late latch and the commands of lists.
+//! The segment: 24 nodes with inboxes, ages, the late latch, the mark and the commands of lists.
 
 use crate::alias::Alias;
-use crate::command::{Answer, Command};
+use crate::command::{Answer, Command, Given};
 use crate::frame::Frame;
 use crate::inbox::Inbox;
 use crate::node::{Node, Owed, State};
 use crate::refusal::Refusal;
 
 /// Ages are kept as the tick since which they run, so that a tick touches no inbox frame.
+#[derive(Clone)]
 pub struct Segment {
     nodes: [Node; Segment::PLACES],
     /// Since when each node has owed its reply RID or AMR.
@@ -17,6 +18,8 @@ pub struct Segment {
     full: u32,
     now: u64,
     late: bool,
+    /// The place of the node chosen last.
+    mark: usize,
     inboxes: [Inbox; Segment::PLACES],
 }
 
@@ -41,7 +44,7 @@ impl Segment {
     /// The greatest age in a kept list.
     pub const LATENESS: u64 = 40;
 
-    /// All nodes Off.
+    /// All nodes Off, and the mark at the last of them.
     pub const fn new() -> Segment {
         Segment {
             nodes: [Node::OFF; Self::PLACES],
@@ -50,6 +53,7 @@ impl Segment {
             full: 0,
             now: 0,
             late: false,
+            mark: Self::PLACES - 1,
             inboxes: [Inbox::EMPTY; Self::PLACES],
         }
     }
@@ -59,7 +63,7 @@ impl Segment {
     pub fn carry_out(&mut self, command: &Command) -> Answer {
         match *command {
             Command::PowerOn { index, id } => self.power_on(index.into(), id)?,
-            Command::Send { index } => return self.send(index.into()).map(Some),
+            Command::Send { index } => return self.send(index.into()).map(Given::Sent),
             Command::FailedSend { index } => self.failed_send(index.into())?,
             Command::Deliver { index } => self.deliver(index.into())?,
             Command::Tick => self.tick(),
@@ -70,8 +74,9 @@ impl Segment {
             Command::Enquiry { index, len, id } => self.enquiry(index.into(), len, id)?,
             Command::Release { index } => self.release(index.into())?,
             Command::Link { index, state } => self.link(index.into(), state)?,
+            Command::Choose => return Ok(Given::Chosen(self.choose())),
         }
-        Ok(None)
+        Ok(Given::Nothing)
     }
 
     /// 1, 3, 15.
@@ -165,6 +170,16 @@ impl Segment {
         self.nodes[place(index)?].link(state)
     }
 
+    /// Who sends next: the first node with a due frame after the one chosen last, wrapping past the
+    /// last place. Where there is none the mark stays. Never refused.
+    pub fn choose(&mut self) -> Option<usize> {
+        let after = self.mark + 1;
+        let mut turn = (after..Self::PLACES).chain(0..after);
+        let chosen = turn.find(|&place| self.nodes[place].has_due())?;
+        self.mark = chosen;
+        Some(chosen)
+    }
+
     /// The places whose nodes are not Off and have this Node ID.
     pub fn holders(&self, id: u64) -> impl Iterator<Item = usize> + '_ {
         let holds = move |node: &Node| node.id() == id && !node.is_off();
@@ -221,6 +236,11 @@ impl Segment {
 
     pub fn is_late(&self) -> bool {
         self.late
+    }
+
+    /// The node chosen last, at first the last of all.
+    pub fn mark(&self) -> usize {
+        self.mark
     }
 
     pub fn node(&self, place: usize) -> &Node {

@@ -17,11 +17,13 @@ use reference::{
 #[test]
 fn aliases_are_single_in_kept_lists() {
     let (mut kept, mut several_users, mut contested, mut reported) = (0, 0, 0, 0);
+    let mut chosen = 0;
     for number in 0..2_000 {
         let mut rng = Prng::new(seed().wrapping_add(number));
         let mut temper = Temper::random(&mut rng, 2_500);
         temper.limits = (number % 10 != 0).then_some(Limits::KEPT);
         temper.links = if number % 2 == 0 { 0 } else { 10 };
+        temper.turns = if number % 4 < 2 { 0 } else { 20 };
         let mut walker = Walker::new(&mut rng, temper);
         walker.run();
         assert!(walker.watch.claim_held(), "seed {} script {number}", seed());
@@ -31,10 +33,12 @@ fn aliases_are_single_in_kept_lists() {
         several_users += usize::from(walker.most_users > 1);
         contested += usize::from(walker.contested.is_some());
         reported += usize::from(walker.reported);
+        chosen += usize::from(walker.draft.segment.mark() != Segment::new().mark());
     }
     println!("{kept} kept; {several_users} with several users, {contested} with a contested alias");
-    println!("{reported} with an error report");
+    println!("{reported} with an error report, {chosen} with choices that moved the mark");
     assert!(kept >= 1_800 && several_users >= 700 && contested >= 400 && reported >= 400);
+    assert!(chosen >= 800);
 }
 
 #[test]
@@ -57,25 +61,30 @@ fn a_late_list_can_break_the_claim() {
 
 #[test]
 fn refusals_change_nothing() {
-    let (mut refused, mut links, mut in_use) = (0, 0, 0);
+    let (mut refused, mut links, mut in_use, mut marked) = (0, 0, 0, 0);
     for number in 0..60 {
         let mut rng = Prng::new(seed() ^ number);
         let mut temper = Temper::random(&mut rng, 700);
         temper.weights = [8, 30, 8, 40, 20, 15, 15, 15];
         temper.links = 10;
+        temper.turns = 10;
         let mut segment = Segment::new();
         for command in walk_list(&mut rng, temper) {
             let before = picture(&segment);
             if let Err(refusal) = segment.carry_out(&command) {
                 refused += 1;
+                marked += usize::from(segment.mark() != Segment::new().mark());
                 links += usize::from(matches!(command, Command::Link { .. }));
                 in_use += usize::from(refusal == Refusal::NodeIdInUse);
                 assert!(picture(&segment) == before, "{command:?}");
             }
         }
     }
-    println!("{refused} refused, {links} of them links, {in_use} by 15");
+    println!(
+        "{refused} refused, {links} of them links, {in_use} by 15, {marked} with a moved mark"
+    );
     assert!(refused > 1_000 && links > 100 && in_use > 80, "{refused}, {links}, {in_use}");
+    assert!(marked > 1_000, "{marked}");
 }
 
 /// Ages counted one by one, as document 01 says it, beside the segment's own way.
@@ -131,7 +140,7 @@ fn late_and_the_greatest_ages_are_as_the_ages_say() {
         let (mut segment, mut watch, mut most) =
             (Segment::new(), Watch::default(), Limits::default());
         let mut ages = vec![Ages::default(); Segment::PLACES];
-        for command in walk_list(&mut rng, Temper { links: 10, ..temper }) {
+        for command in walk_list(&mut rng, Temper { links: 10, turns: 5, ..temper }) {
             let before: Vec<View> = (0..Segment::PLACES).map(|p| segment.view(p)).collect();
             let _ = segment.carry_out(&command);
             watch.see(&segment);

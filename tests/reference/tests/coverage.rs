@@ -1,5 +1,5 @@
 //! The stored corpus reaches every cell that scripts can reach, and every mark; lists with link
-//! orders reach every cell and every link mark.
+//! orders reach every cell and every link mark; lists with choices reach every turn cell.
 
 mod common;
 
@@ -7,12 +7,15 @@ use common::{in_state, ID};
 use reference::generate::changes::Change;
 use reference::generate::corpus;
 use reference::generate::coverage::{in_scripts, Coverage, Event, Heed, Row};
+use reference::generate::draft::Draft;
 use reference::generate::id_marks::IdMark;
 use reference::generate::link_lists;
 use reference::generate::look_ups::{Followed, Gone, Outcome};
 use reference::generate::map_corpus::{self, MapRule};
 use reference::generate::marks::{Mark, Sort};
 use reference::generate::prng::Prng;
+use reference::generate::turn_cells::{Act, TurnCell};
+use reference::generate::turn_lists;
 use reference::generate::walker::{walk, walk_list, Temper};
 use reference::header::{self, Header, AMD, AME, RID};
 use reference::map::Entry;
@@ -47,6 +50,19 @@ fn lists_with_link_orders_are_complete() {
     assert_eq!(cover.impossible_cells(), []);
 }
 
+#[test]
+fn lists_with_choices_are_complete() {
+    let lists = turn_lists::lists(corpus::SEED);
+    let mut cover = Coverage::new();
+    lists.iter().for_each(|list| cover.count_list(list));
+    let commands: usize = lists.iter().map(Vec::len).sum();
+    println!("{} lists of {commands} commands; {} turn cells", lists.len(), TurnCell::all().len());
+    assert_eq!(cover.missing_turn_cells(), []);
+    assert!(cover.turns.counts.keys().all(|cell| TurnCell::all().contains(cell)));
+    assert_eq!(cover.unlisted_cells(), []);
+    assert_eq!(cover.impossible_cells(), []);
+}
+
 /// By the corpus and by random scripts, which do not know what is called impossible.
 #[test]
 fn no_cell_that_is_called_impossible_is_met() {
@@ -68,7 +84,7 @@ fn no_list_meets_a_cell_that_is_called_impossible() {
     let mut cover = Coverage::new();
     for seed in 0..300 {
         let mut rng = Prng::new(seed);
-        let temper = Temper { links: 10, ..Temper::random(&mut rng, 1_000) };
+        let temper = Temper { links: 10, turns: 10, ..Temper::random(&mut rng, 1_000) };
         cover.count_list(&walk_list(&mut rng, temper));
     }
     assert_eq!(cover.impossible_cells(), []);
@@ -207,6 +223,42 @@ fn an_age_ran_on_if_it_alone_made_the_list_late() {
         let mut cover = Coverage::new();
         cover.count_list(&draft.list);
         assert_eq!(cover.ids.met(&IdMark::LateBy(Sort::Reply)), counts, "{after} {another}");
+    }
+}
+
+/// The turn cells that a list meets, of those that are wanted.
+fn turn_cells(draft: &Draft, wanted: fn(&TurnCell) -> bool) -> Vec<TurnCell> {
+    let mut cover = Coverage::new();
+    cover.count_list(&draft.list);
+    cover.turns.counts.into_keys().filter(wanted).collect()
+}
+
+#[test]
+fn what_comes_between_two_choices_counts_if_both_name_a_node() {
+    let between = |draft: &Draft| turn_cells(draft, |cell| matches!(cell, TurnCell::Between(_)));
+    let mut draft = Draft::new();
+    draft.choose().power_on(3, ID).power_on(9, ID + 9).choose();
+    assert_eq!(between(&draft), [], "the first named nobody");
+    draft.send(3).fail(9).deliver(3);
+    assert_eq!(between(&draft), [], "no second has come");
+    draft.choose();
+    assert_eq!(between(&draft), [TurnCell::Between(Act::Sent)], "the rest is no act of node 3");
+    draft.choose().choose();
+    assert_eq!(between(&draft), [TurnCell::Between(Act::Sent)], "nothing comes between these");
+    draft.ticks(1).fail(9).choose();
+    let more = [Act::Sent, Act::Failed { restarts: true }, Act::Tick].map(TurnCell::Between);
+    assert_eq!(between(&draft), more);
+}
+
+#[test]
+fn a_node_is_named_last_where_23_others_were_named_since() {
+    for (nodes, ticks, last) in [(23, 0, None), (24, 0, Some(false)), (24, 1, Some(true))] {
+        let mut draft = Draft::new();
+        (0..nodes).for_each(|index| _ = draft.power_on(index, ID + u64::from(index)));
+        (0..24).for_each(|_| _ = draft.choose().ticks(ticks));
+        let met = turn_cells(&draft, |cell| matches!(cell, TurnCell::NamedLast { .. }));
+        let expected = last.map(|amid| TurnCell::NamedLast { amid, place: 23 });
+        assert_eq!(met, Vec::from_iter(expected), "{nodes} nodes");
     }
 }
 

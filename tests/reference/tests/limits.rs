@@ -176,6 +176,8 @@ struct Counts {
     /// A release or a collision dropped a reply that waited.
     dropped: [usize; 2],
     reported: usize,
+    /// A choice moved the mark.
+    chosen: usize,
 }
 
 impl Counts {
@@ -189,6 +191,7 @@ impl Counts {
         let dropped = dropped_replies(&walker.draft.list);
         (0..2).for_each(|cause| self.dropped[cause] += usize::from(dropped[cause]));
         self.reported += usize::from(walker.reported);
+        self.chosen += usize::from(walker.draft.segment.mark() != Segment::new().mark());
     }
 }
 
@@ -218,7 +221,8 @@ fn aliases_are_single_in_random_lists_at_random_corners() {
         let mut rng = Prng::new(seed().wrapping_add(number));
         let (corner, temper) = contests::at_corner(&mut rng);
         let links = if number % 2 == 0 { 0 } else { 10 };
-        let mut walker = Walker::new(&mut rng, Temper { links, ..temper });
+        let turns = if number % 4 < 2 { 0 } else { 10 };
+        let mut walker = Walker::new(&mut rng, Temper { links, turns, ..temper });
         walker.run();
         let watch = walker.watch;
         assert!(watch.claim_held(), "seed {} list {number} at {corner:?}: {watch:?}", seed());
@@ -230,6 +234,7 @@ fn aliases_are_single_in_random_lists_at_random_corners() {
     assert!(late >= 1_000 && at_both_limits >= 600 && several_users >= 800 && contested >= 600);
     assert!(counts.last_tick.into_iter().all(|lists| lists >= 15));
     assert!(counts.dropped.into_iter().all(|lists| lists >= 10) && counts.reported >= 100);
+    assert!(counts.chosen >= 500);
 }
 
 /// The generator finds what it looks for: just outside its lists break the claim, within the limits.

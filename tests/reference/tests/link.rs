@@ -2,9 +2,9 @@
 
 mod common;
 
-use common::{in_state, refusal, ID, REPORT};
+use common::{in_state, refusal, sent, ID, REPORT};
 use reference::generate::draft::Draft;
-use reference::{run, Command, Frame, Node, State};
+use reference::{run, Command, Frame, Given, Node, State};
 
 /// A change of the link, and the header of the report that 002, 6.2.7, names for it, alias 263.
 const CHANGES: [(u8, u8, Option<u32>); 9] = [
@@ -63,7 +63,7 @@ fn each_change_in_permitted_makes_its_report_wait() {
         let report = header.map(|header| Frame { header, kind: 0, len: 6, data });
         assert_eq!((due(&draft), link_of(&draft)), (report, is), "{was} to {is}");
         draft.send(0);
-        assert_eq!(draft.answer.ok(), report.map(Some));
+        assert_eq!(draft.answer.ok(), report.map(Given::Sent));
         assert_eq!((draft.state(0), draft.has_due(0)), (State::Permitted, false));
         assert_eq!(refusal(draft.send(0)), 4);
         assert_eq!(link_of(&draft), is);
@@ -97,9 +97,9 @@ fn five_frames_wait_and_leave_in_order() {
     draft.message(0, 0x0123, &[7]).link(0, 1);
     assert_eq!(refusal(draft.message(0, 0x0123, &[7])), 8);
     draft.foreign_amd_of(0).foreign_ame().foreign_cid(0).drain(0);
-    assert_eq!(draft.send(0).answer, Ok(Some(Frame::extended(0x1070_0263, &[]))));
-    assert_eq!(draft.send(0).answer, Ok(Some(Frame::with_node_id(0x1070_1263, ID))));
-    assert_eq!(draft.send(0).answer, Ok(Some(REPORT)));
+    assert_eq!(sent(draft.send(0)), Frame::extended(0x1070_0263, &[]));
+    assert_eq!(sent(draft.send(0)), Frame::with_node_id(0x1070_1263, ID));
+    assert_eq!(sent(draft.send(0)), REPORT);
     assert_eq!((draft.state(0), draft.has_due(0)), (State::Silent, false));
 }
 
@@ -117,7 +117,7 @@ fn the_report_leaves_before_the_host_frame() {
         draft.foreign_ame().foreign_cid(0).drain(0);
         let headers = [0x1070_0263, 0x1070_1263, 0x1071_0263, 0x1812_3263];
         for header in headers {
-            assert_eq!(draft.send(0).answer.unwrap().unwrap().header, header);
+            assert_eq!(sent(draft.send(0)).header, header);
         }
         assert_eq!((draft.state(0), refusal(draft.send(0))), (State::Permitted, 4));
     }
@@ -140,7 +140,7 @@ fn a_later_report_replaces_a_waiting_one() {
         for &state in states {
             draft.link(0, state);
         }
-        assert_eq!(draft.send(0).answer, Ok(Some(Frame::with_node_id(header, ID))), "{states:?}");
+        assert_eq!(sent(draft.send(0)), Frame::with_node_id(header, ID), "{states:?}");
         assert_eq!(refusal(draft.send(0)), 4);
     }
 }

@@ -2,7 +2,7 @@
 
 mod common;
 
-use common::{in_state, refusal, ID};
+use common::{in_state, refusal, sent, ID};
 use reference::generate::draft::Draft;
 use reference::header::{self, Header, AMD, AME};
 use reference::script::INPUT_MAX;
@@ -161,7 +161,7 @@ fn a_cid_after_the_reply_left_earns_another() {
         let mut draft = in_state(state);
         for _ in 0..3 {
             draft.foreign_cid(0).foreign_cid(0).deliver(0).deliver(0).send(0);
-            assert_eq!(draft.answer, Ok(Some(Frame::extended(0x1070_0263, &[]))));
+            assert_eq!(sent(&draft), Frame::extended(0x1070_0263, &[]));
             assert!(!waiting_reply(&draft));
         }
         assert_eq!(draft.state(0), state);
@@ -198,7 +198,7 @@ fn messages_and_enquiries_are_refused_in_order() {
     assert_eq!(refusal(draft.enquiry(0, 0, 0)), 8);
     assert_eq!(refusal(draft.push(bad_message(0))), 9);
     assert_eq!(refusal(draft.push(bad_enquiry(0))), 9);
-    assert_eq!(draft.send(0).answer, Ok(Some(Frame::extended(0x1070_2263, &[0; 6]))));
+    assert_eq!(sent(draft.send(0)), Frame::extended(0x1070_2263, &[0; 6]));
 }
 
 #[test]
@@ -289,14 +289,14 @@ fn unused_data_bytes_are_ignored() {
     assert!(draft.segment.node(0).waiting().amd);
     draft.push(Command::Message { index: 0, field: 1, len: 2, data: [7; 8] });
     draft.send(0).send(0);
-    assert_eq!(draft.answer, Ok(Some(Frame::extended(0x1800_1263, &[7, 7]))));
+    assert_eq!(sent(&draft), Frame::extended(0x1800_1263, &[7, 7]));
 }
 
 #[test]
 fn reserved_does_not_remember_an_ame() {
     let mut draft = in_state(State::Reserved);
     draft.foreign_ame().foreign_amd_of(0).deliver(0).deliver(0).send(0);
-    assert_eq!(draft.answer, Ok(Some(Frame::with_node_id(0x1070_1263, ID))));
+    assert_eq!(sent(&draft), Frame::with_node_id(0x1070_1263, ID));
     assert_eq!((draft.state(0), draft.has_due(0)), (State::Permitted, false));
 }
 
@@ -304,12 +304,12 @@ fn reserved_does_not_remember_an_ame() {
 fn the_reason_of_leaving_never_changes() {
     let mut draft = in_state(State::Leaving);
     draft.foreign_message(0).foreign_cid(0).foreign_ame().drain(0);
-    assert_eq!(draft.send(0).answer, Ok(Some(Frame::with_node_id(0x1070_3263, ID))));
+    assert_eq!(sent(draft.send(0)), Frame::with_node_id(0x1070_3263, ID));
     assert_eq!(draft.state(0), State::Resting);
     let mut draft = in_state(State::Permitted);
     draft.foreign_message(0).deliver(0);
     assert_eq!(refusal(draft.release(0)), 7);
-    assert_eq!(draft.send(0).answer, Ok(Some(Frame::with_node_id(0x1070_3263, ID))));
+    assert_eq!(sent(draft.send(0)), Frame::with_node_id(0x1070_3263, ID));
     assert_eq!((draft.state(0), draft.alias(0)), (State::Testing, Alias(0x4F8)));
 }
 
@@ -365,7 +365,7 @@ fn the_wait_starts_when_cid_4_leaves() {
 fn no_reserving_rid_after_a_matching_frame() {
     let mut draft = in_state(State::Testing);
     draft.send(0).send(0).send(0).send(0).ticks(201).foreign_message(0).deliver(0);
-    assert_eq!(draft.send(0).answer, Ok(Some(Frame::extended(0x1705_04F8, &[]))));
+    assert_eq!(sent(draft.send(0)), Frame::extended(0x1705_04F8, &[]));
 }
 
 #[test]

@@ -3,7 +3,7 @@
 
 mod common;
 
-use common::{in_state, refusal, ID, REPORT};
+use common::{in_state, refusal, sent, ID, REPORT};
 use reference::generate::draft::Draft;
 use reference::{run, Frame, State};
 
@@ -12,7 +12,7 @@ fn the_report_leaves_with_eight_bytes_and_makes_silent() {
     let mut draft = in_state(State::Permitted);
     draft.foreign_amd_of(0).deliver(0);
     assert_eq!(draft.segment.view(0).due, Some(REPORT));
-    assert_eq!(draft.send(0).answer, Ok(Some(REPORT)));
+    assert_eq!(sent(draft.send(0)), REPORT);
     assert_eq!((draft.state(0), draft.has_due(0)), (State::Silent, false));
 }
 
@@ -43,7 +43,7 @@ fn a_message_of_the_host_keeps_its_bytes() {
     for bytes in [&[1, 1, 0, 0, 0, 2, 1][..], &REPORT.data] {
         let mut draft = in_state(State::Permitted);
         draft.message(0, 0x15B4, bytes);
-        assert_eq!(draft.send(0).answer, Ok(Some(Frame::extended(0x195B_4263, bytes))));
+        assert_eq!(sent(draft.send(0)), Frame::extended(0x195B_4263, bytes));
         assert_eq!((draft.state(0), refusal(draft.send(0))), (State::Permitted, 4));
     }
 }
@@ -52,8 +52,8 @@ fn a_message_of_the_host_keeps_its_bytes() {
 #[test]
 fn other_frames_are_as_before() {
     let mut draft = in_state(State::Testing);
-    let mut sent = Vec::new();
-    let mut send = |draft: &mut Draft| sent.push(draft.send(0).answer.unwrap().unwrap());
+    let mut frames = Vec::new();
+    let mut send = |draft: &mut Draft| frames.push(sent(draft.send(0)));
     for _ in 0..4 {
         send(&mut draft);
     }
@@ -84,5 +84,5 @@ fn other_frames_are_as_before() {
         Frame::with_node_id(0x1070_2263, ID),
         Frame::with_node_id(0x1070_3263, ID),
     ];
-    assert_eq!(sent, expected);
+    assert_eq!(frames, expected);
 }

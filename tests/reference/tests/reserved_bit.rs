@@ -12,7 +12,7 @@ use reference::generate::prng::Prng;
 use reference::generate::twin::{twin, twin_command};
 use reference::generate::{corpus, link_lists};
 use reference::header::{self, Header, FIELD_MAX, HEADER_MAX};
-use reference::{whole_commands, Alias, AliasMap, Command, Frame, Node, Refusal, Segment};
+use reference::{whole_commands, Alias, AliasMap, Command, Frame, Given, Node, Refusal, Segment};
 use std::collections::BTreeSet;
 use std::sync::LazyLock;
 
@@ -140,7 +140,7 @@ fn nodes_send_bit_28_as_1() {
     for list in LISTS.iter() {
         let mut segment = Segment::new();
         for command in list {
-            if let Ok(Some(frame)) = segment.carry_out(command) {
+            if let Ok(Given::Sent(frame)) = segment.carry_out(command) {
                 assert!(header::read(frame.header).unwrap().bit_28);
                 sent += 1;
             }

@@ -1,8 +1,8 @@
 //! Compares the operations for C with the other implementation. The table: OPERATIONS commands, and all that is seen after each of
-//! them; first the lists of the stored corpus, which meet every state with every event that a script can carry, then lists with
-//! link orders, which meet the rest too, then lists at random corners of A.3, then others by chance. Some of the lists are also
-//! carried out on two proved tables, with bit 28 of foreign frames turned in one. Then headers, aliases, GridConnect text and the
-//! map. SEED may be given.
+//! them, and the mark; first the lists of the stored corpus, which meet every state with every event that a script can carry, then
+//! lists with link orders and choices, which meet the rest too, then lists at random corners of A.3, then others by chance. Some of
+//! the lists are also carried out on two proved tables, with bit 28 of foreign frames turned in one. Then headers, aliases,
+//! GridConnect text and the map. SEED may be given.
 
 use compare::operations::map::{self, Counts, LookUps};
 use compare::operations::operation::Operation;
@@ -12,8 +12,8 @@ use compare::setting::{fresh_seed, setting};
 use compare::shrink::fewest;
 use reference::generate::coverage::Coverage;
 use reference::generate::prng::Prng;
-use reference::generate::{corpus, link_lists};
-use reference::Limits;
+use reference::generate::{corpus, link_lists, turn_lists};
+use reference::{Command, Limits};
 use std::fmt::{Debug, Display};
 use std::process::exit;
 
@@ -62,10 +62,8 @@ fn compare_tables(seed: u64, wanted: usize) -> String {
     for script in corpus::scripts(corpus::SEED) {
         run.compare(&list::of_script(&script), "of the stored corpus", true);
     }
-    for commands in link_lists::lists(corpus::SEED) {
-        let list: Vec<Operation> = commands.into_iter().map(Operation::from).collect();
-        run.compare(&list, "with link orders, of those made for every run", true);
-    }
+    run.compare_all(link_lists::lists(corpus::SEED), "with link orders, of those made for every run");
+    run.compare_all(turn_lists::lists(corpus::SEED), "with choices, of those made for every run");
     for number in 0..corners::LISTS {
         let seed = seed.wrapping_add(number);
         let (corner, list) = corners::random(&mut Prng::new(seed));
@@ -82,6 +80,7 @@ fn compare_tables(seed: u64, wanted: usize) -> String {
     println!("{}", cover::table(&run.cover));
     println!("{}", cover::id_marks(&run.cover));
     println!("{}", cover::link_marks(&run.cover));
+    println!("{}", cover::turn_cells(&run.cover));
     run.end(seed);
     run.corners.line().unwrap_or_else(|unmet| fail(&unmet))
 }
@@ -97,10 +96,19 @@ struct Run {
     done: usize,
     far: usize,
     links: usize,
+    choices: usize,
     wanted: usize,
 }
 
 impl Run {
+    /// Compares lists, on twin tables too.
+    fn compare_all(&mut self, lists: Vec<Vec<Command>>, whose: &str) {
+        for commands in lists {
+            let list: Vec<Operation> = commands.into_iter().map(Operation::from).collect();
+            self.compare(&list, whose, true);
+        }
+    }
+
     /// Compares a list, on twin tables too where that is wanted, and gives its greatest ages.
     fn compare(&mut self, list: &[Operation], whose: &str, with_twins: bool) -> Limits {
         let greatest = pair::compare(list, &mut self.cover).unwrap_or_else(|what| {
@@ -116,6 +124,7 @@ impl Run {
         self.done += list.len();
         self.far += list.iter().filter(|operation| operation.command().is_none()).count();
         self.links += list.iter().filter(|operation| matches!(operation, Operation::Link { .. })).count();
+        self.choices += list.iter().filter(|operation| matches!(operation, Operation::Choose)).count();
         greatest
     }
 
@@ -138,10 +147,15 @@ impl Run {
         all_met("these states and events never met, though they can", &self.cover.unmet_cells());
         all_met("these link marks were never met", &self.cover.missing_link_marks());
         all_met("these marks of Node IDs at power-on were never met", &self.cover.missing_id_marks());
-        let Run { lists, late, done, far, links, .. } = self;
+        all_met("these turn cells were never met", &self.cover.missing_turn_cells());
+        let Run { lists, late, done, far, links, choices, .. } = self;
         println!("operations: {done} commands agree, SEED={seed}: in {lists} lists, {late} of them late;");
-        println!("operations: {far} of them have operands that no script can carry, and {links} are link orders;");
-        println!("operations: after each, every node, due frame and inbox; and no word was changed by a refusal or by a look");
+        println!(
+            "operations: {far} of them have operands that no script can carry, {links} are link orders, {choices} are choices;"
+        );
+        println!("operations: after each, every node, due frame and inbox; and no word was changed by a refusal or by a look;");
+        println!("operations: after each, the mark, by a choice in a copy of the table; after each list, 25 choices more;");
+        println!("operations: of any 24 choices at which a node was due one named it, and no choice changed more than the mark");
         self.end_twins();
     }
 

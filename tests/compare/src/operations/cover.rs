@@ -1,8 +1,10 @@
-//! How often each state of a node met each event, drawn as a table; and how often each link mark and each mark of Node IDs was met.
+//! How often each state of a node met each event, drawn as a table; and how often each link mark, each mark of Node IDs and each turn
+//! cell was met.
 
-use reference::generate::coverage::{reachable, Coverage, Event, Row};
+use reference::generate::coverage::{reachable, Coverage, Event, Look, Row};
 use reference::generate::id_marks::IdMark;
 use reference::generate::link_marks::{Cause, LinkMark};
+use reference::generate::turn_cells::{Act, TurnCell};
 use std::collections::{BTreeMap, BTreeSet};
 use std::fmt::Write;
 
@@ -35,6 +37,9 @@ fn label(event: Event) -> String {
         Event::ForeignFrame => "a foreign frame comes".to_string(),
         Event::Link { was, is } => format!("link {} to {}", was.number(), is.number()),
         Event::LinkRefused(refusal) => format!("link, refused {refusal}"),
+        Event::Choice(Look::Named) => "a choice names it".to_string(),
+        Event::Choice(Look::PassedOver) => "a choice passes over it".to_string(),
+        Event::Choice(Look::NotReached) => "a choice ends before it".to_string(),
     }
 }
 
@@ -105,4 +110,47 @@ fn link_label(mark: &LinkMark) -> String {
 /// A line for each link mark.
 pub fn link_marks(cover: &Coverage) -> String {
     marks("link orders and error reports", LinkMark::all(), &cover.links.counts, link_label)
+}
+
+/// What came between two choices; it is the node that the first of them named.
+fn act_words(act: Act) -> &'static str {
+    match act {
+        Act::Sent => "it sends",
+        Act::SendRefusedBy5 => "its send is refused by 5",
+        Act::Failed { restarts: false } => "its send fails and it stays as it is",
+        Act::Failed { restarts: true } => "its send fails and it starts again",
+        Act::Delivered { restarts: false } => "it is delivered a frame",
+        Act::Delivered { restarts: true } => "it is delivered a frame and starts again",
+        Act::PoweredOn => "it is powered on",
+        Act::PowerOnRefused => "its power-on is refused",
+        Act::AnotherPoweredOn => "another is powered on",
+        Act::Message => "its host orders a message",
+        Act::Enquiry => "its host orders an enquiry",
+        Act::Release => "it is released",
+        Act::Link => "it is told its link state",
+        Act::Tick => "a tick passes",
+        Act::Foreign => "a foreign frame comes",
+        Act::Nobody => "a choice names nobody",
+    }
+}
+
+fn turn_label(cell: &TurnCell) -> String {
+    match cell {
+        TurnCell::Named { .. } => "a choice with this mark names this node".to_string(),
+        TurnCell::Nobody { .. } => "a choice with this mark names nobody".to_string(),
+        TurnCell::MarkedIsLast => "a choice names another, though the marked node is due".to_string(),
+        TurnCell::Between(act) => format!("named, then {}", act_words(*act)),
+        TurnCell::NamedLast { amid: false, .. } => "this node is due at 24 choices, named by the last".to_string(),
+        TurnCell::NamedLast { amid: true, .. } => "the same, and commands between any two of the 24".to_string(),
+    }
+}
+
+/// A line for each sort of turn cells: how many it has, and how often each of them was met at least.
+pub fn turn_cells(cover: &Coverage) -> String {
+    let mut text = format!("{:<56}{:>5}{:>11}", "choices", "cells", "each met");
+    for sort in TurnCell::all().chunk_by(|one, next| turn_label(one) == turn_label(next)) {
+        let least = sort.iter().map(|cell| *cover.turns.counts.get(cell).unwrap_or(&0)).min().unwrap_or(0);
+        write!(text, "\n{:<56}{:>5}{least:>11}", turn_label(&sort[0]), sort.len()).expect("a string takes it");
+    }
+    text
 }

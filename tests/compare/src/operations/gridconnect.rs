@@ -4,7 +4,7 @@
 
 use super::grid_marks::Counts;
 use super::grid_text::{in_c, Read, Written, MOST_ROOM};
-use super::seen::frame_words;
+use super::seen::words_but_kind;
 use super::{alike, answered, put_out, same};
 use crate::card::{read_grid, write_grid};
 use reference::generate::grid_texts::{self, any_header, near_text, text_of};
@@ -33,12 +33,6 @@ const PROVED: Calls = Calls { write: write_grid, read: read_grid };
 /// What agrees, or what differs.
 pub fn compare(seed: u64) -> Result<Counts, String> {
     Run::new(PROVED).compare(seed)
-}
-
-/// The words of a frame that was read.
-pub fn words(frame: Frame) -> [u64; 3] {
-    let [_, header, len, bytes] = frame_words(&frame);
-    [header, len, bytes]
 }
 
 struct Run {
@@ -109,7 +103,7 @@ impl Run {
         if proved.answer.0 != 0 {
             return Ok(());
         }
-        let itself = Read((0, words(Frame::extended(header, &data[..len.into()]))));
+        let itself = Read((0, words_but_kind(Frame::extended(header, &data[..len.into()]))));
         let read = self.read(proved.text())?;
         alike(|| format!("{}, read again", call()), ["read", "expected"], [read, itself])?;
         self.counts.read_again[usize::from(len)] += 1;
@@ -120,7 +114,7 @@ impl Run {
     fn read(&mut self, text: &[u8]) -> Result<Read, String> {
         let call = || format!("grid_read(\"{}\", {}, frame)", in_c(text), text.len());
         let proved = Read(put_out(|frame| (self.calls.read)(text, frame)));
-        same(call, &proved, &Read(answered(gridconnect::read(text), words)))?;
+        same(call, &proved, &Read(answered(gridconnect::read(text), words_but_kind)))?;
         match proved.0 {
             (0, words) => self.write_back(text, words)?,
             _ => self.counts.add_refused(text),

@@ -1,5 +1,5 @@
-//! Lists of operations: the commands of a script or of a list with link orders, and among them operations with operands that no
-//! command can carry.
+//! Lists of operations: the commands of a script or of a list with link orders and choices, and among them operations with operands
+//! that no command can carry.
 
 use super::operation::Operation;
 use crate::ROUND;
@@ -36,7 +36,8 @@ pub fn random(rng: &mut Prng) -> Vec<Operation> {
     list
 }
 
-/// Commands, many or few, from all nodes Off or from some that are Permitted; with link orders often, seldom or not at all.
+/// Commands, many or few, from all nodes Off or from some that are Permitted; with link orders often, seldom or not at all, and with
+/// turns likewise.
 fn commands(rng: &mut Prng) -> Vec<Command> {
     let commands = match rng.below(40) {
         0 => 6_000,
@@ -44,7 +45,8 @@ fn commands(rng: &mut Prng) -> Vec<Command> {
         10..=19 => 250,
         _ => 1_000,
     };
-    let temper = Temper { links: rng.pick(&[0, 2, 10, 30]), ..Temper::random(rng, commands) };
+    let (links, turns) = (rng.pick(&[0, 2, 10, 30]), rng.pick(&[0, 2, 10, 30]));
+    let temper = Temper { links, turns, ..Temper::random(rng, commands) };
     if temper.nodes == Segment::PLACES || rng.percent(30) {
         return walk_list(rng, temper);
     }

@@ -11,6 +11,7 @@ pub mod map;
 pub mod operation;
 pub mod pair;
 pub mod seen;
+pub mod turn;
 pub mod twins;
 
 use crate::card::MARK;

@@ -4,7 +4,7 @@ use super::{put_out, Answered};
 use crate::card::{Card, MARK};
 use reference::generate::coverage::Coverage;
 use reference::generate::twin::twin_command;
-use reference::{Answer, Command, Frame, Segment};
+use reference::{Answer, Command, Frame, Given, Segment};
 use std::fmt;
 
 #[derive(Clone, Copy, Debug, PartialEq, Eq)]
@@ -19,6 +19,7 @@ pub enum Operation {
     Enquiry { index: usize, len: u8, bytes: u64 },
     Release { index: usize },
     Link { index: usize, state: u8 },
+    Choose,
 }
 
 impl From<Command> for Operation {
@@ -40,6 +41,7 @@ impl From<Command> for Operation {
             }
             Command::Release { index } => Operation::Release { index: index.into() },
             Command::Link { index, state } => Operation::Link { index: index.into(), state },
+            Command::Choose => Operation::Choose,
         }
     }
 }
@@ -74,6 +76,7 @@ impl Operation {
             }
             Operation::Release { index } => Command::Release { index: byte(index)? },
             Operation::Link { index, state } => Command::Link { index: byte(index)?, state },
+            Operation::Choose => Command::Choose,
         })
     }
 
@@ -82,7 +85,7 @@ impl Operation {
         self.command().map_or(*self, |command| twin_command(&command).into())
     }
 
-    /// By the proved library: its answer, and the words of the frame that left.
+    /// By the proved library: its answer, and the words of the frame that left, or the word that says who was chosen.
     pub fn proved(&self, card: &mut Card) -> Answered<3> {
         let code = match *self {
             Operation::PowerOn { index, id } => card.power_on(index, id),
@@ -95,6 +98,10 @@ impl Operation {
             Operation::Enquiry { index, len, bytes } => card.enquiry(index, len, bytes),
             Operation::Release { index } => card.release(index),
             Operation::Link { index, state } => card.link(index, state),
+            Operation::Choose => {
+                let (code, [chosen]) = put_out(|chosen| card.choose(chosen));
+                return (code, [chosen, MARK, MARK]);
+            }
         };
         (code, [MARK; 3])
     }
@@ -106,16 +113,16 @@ impl Operation {
         }
         match *self {
             Operation::PowerOn { index, id } => segment.power_on(index, id)?,
-            Operation::Send { index } => return segment.send(index).map(Some),
+            Operation::Send { index } => return segment.send(index).map(Given::Sent),
             Operation::Fail { index } => segment.failed_send(index)?,
             Operation::Deliver { index } => segment.deliver(index)?,
             Operation::Message { index, field, len, bytes } => segment.message(index, field, len, bytes.to_be_bytes())?,
             Operation::Enquiry { index, len, bytes } => segment.enquiry(index, len, enquired(bytes).0)?,
             Operation::Release { index } => segment.release(index)?,
             Operation::Link { index, state } => segment.link(index, state)?,
-            Operation::Tick | Operation::Foreign { .. } => unreachable!("it is a command"),
+            Operation::Tick | Operation::Foreign { .. } | Operation::Choose => unreachable!("it is a command"),
         }
-        Ok(None)
+        Ok(Given::Nothing)
     }
 }
 
@@ -137,6 +144,7 @@ impl fmt::Display for Operation {
             Operation::Enquiry { index, len, bytes } => write!(out, "card_enquiry(table, {index}, {len}, 0x{bytes:016X});"),
             Operation::Release { index } => write!(out, "card_release(table, {index});"),
             Operation::Link { index, state } => write!(out, "card_link(table, {index}, {state});"),
+            Operation::Choose => write!(out, "card_choose(table, chosen);"),
         }
     }
 }

@@ -1,15 +1,19 @@
-//! Both implementations side by side: after each operation all that can be seen of either is compared.
+//! Both implementations side by side: after each operation all that can be seen of either is compared, and the mark.
 
 use super::operation::Operation;
-use super::seen::{self, frame_words, Seen};
+use super::seen::{self, frame_words, words_but_kind, Seen};
+use super::turn::{self, chosen_word, said};
 use super::{answered, put_out, refused, same};
 use crate::card::{Card, MARK};
 use reference::generate::coverage::Coverage;
-use reference::{Frame, Limits, Refusal, Segment, Watch};
+use reference::{Given, Limits, Refusal, Segment, Turns, Watch};
 
 /// Indexes and places that no node and no frame has.
 const NO_INDEX: [usize; 6] = [Segment::PLACES, 25, 255, 256, 1 << 32, usize::MAX];
 const NO_PLACE: [usize; 4] = [32, 33, 1 << 32, usize::MAX];
+
+/// A choice, which is told by whom it names.
+const CHOICE: &str = "card_choose(table, chosen)";
 
 pub struct Pair {
     card: Card,
@@ -18,6 +22,7 @@ pub struct Pair {
     words: Vec<u64>,
     operations: usize,
     watch: Watch,
+    turns: Turns,
 }
 
 impl Default for Pair {
@@ -29,9 +34,9 @@ impl Default for Pair {
 /// Compares a list of operations from all nodes Off: its greatest ages, or what differs.
 pub fn compare(operations: &[Operation], cover: &mut Coverage) -> Result<Limits, String> {
     let mut pair = Pair::new();
-    let result = operations.iter().try_for_each(|operation| pair.step(operation, cover));
+    let result = pair.mark().and_then(|()| operations.iter().try_for_each(|operation| pair.step(operation, cover)));
     cover.end_script(&pair.segment);
-    result.map_err(|what| format!("operation {}: {what}", pair.operations))?;
+    result.and_then(|()| pair.round()).map_err(|what| format!("operation {}: {what}", pair.operations))?;
     Ok(pair.watch.greatest)
 }
 
@@ -39,14 +44,20 @@ impl Pair {
     pub fn new() -> Pair {
         let card = Card::new();
         let words = card.words().to_vec();
-        Pair { card, segment: Segment::new(), words, operations: 0, watch: Watch::default() }
+        let (watch, turns) = (Watch::default(), Turns::default());
+        Pair { card, segment: Segment::new(), words, operations: 0, watch, turns }
     }
 
     /// Carries out an operation on both sides and compares all there is.
     pub fn step(&mut self, operation: &Operation, cover: &mut Coverage) -> Result<(), String> {
         self.operations += 1;
+        let due = (*operation == Operation::Choose).then(|| turn::due(&self.card));
         let proved = operation.proved(&mut self.card);
-        let plain = answered(operation.plain(&mut self.segment, cover), sent_words);
+        let plain = answered(operation.plain(&mut self.segment, cover), given_words);
+        if let Some(due) = due {
+            same(|| CHOICE.to_string(), said(proved), said(plain))?;
+            self.choice(due, turn::named_by(proved.1[0])).map_err(|what| format!("{operation} {what}"))?;
+        }
         same(|| format!("{operation} answers"), proved, plain)?;
         if proved.0 != 0 && self.card.words() != self.words {
             return Err(format!("{operation} is refused and changes the table"));
@@ -55,6 +66,7 @@ impl Pair {
         self.watch.see(&self.segment);
         self.claim().map_err(|side| format!("after {operation} the claim fails {side}, with {:?}", self.watch.greatest))?;
         self.look()?;
+        self.mark().map_err(|what| format!("after {operation} {what}"))?;
         if !self.card.guards_hold() {
             return Err(format!("{operation} writes beside the table"));
         }
@@ -70,6 +82,33 @@ impl Pair {
         let aliases = !self.watch.greatest.are_allowed() || seen::claim_holds(&seen);
         if !aliases || !seen::node_ids_differ(&seen) {
             return Err("on the proved table");
+        }
+        Ok(())
+    }
+
+    /// Checks a choice by which nodes were due before it: what it changed, and that every node has its turn.
+    fn choice(&mut self, due: [bool; Segment::PLACES], named: Option<usize>) -> Result<(), String> {
+        turn::may_change(&self.words, self.card.words(), named)?;
+        self.turns.see(due, named);
+        if !self.turns.were_fair() {
+            return Err("is the last of 24 at each of which some node was due that none of them named".to_string());
+        }
+        Ok(())
+    }
+
+    /// Whether both have one mark, by whom the proved table then chooses.
+    fn mark(&self) -> Result<(), String> {
+        let next = (self.segment.mark() + 1) % Segment::PLACES;
+        let what = || format!("the mark: once every node without a due frame is powered on, {CHOICE}");
+        same(what, said(turn::after_mark(&self.card)), said((0, [chosen_word(Some(next))])))
+    }
+
+    /// A round of choices, with nothing between them, and one more.
+    fn round(&mut self) -> Result<(), String> {
+        for number in 1..=Segment::PLACES + 1 {
+            let proved = put_out(|chosen| self.card.choose(chosen));
+            let plain = (0, [chosen_word(self.segment.choose())]);
+            same(|| format!("after the list {CHOICE}, call {number}"), said(proved), said(plain))?;
         }
         Ok(())
     }
@@ -117,9 +156,13 @@ impl Pair {
     }
 }
 
-/// The words of the frame that left, if one did.
-fn sent_words(sent: Option<Frame>) -> [u64; 3] {
-    sent.map_or([MARK; 3], |frame| [frame.header.into(), frame.len.into(), u64::from_be_bytes(frame.data)])
+/// The words of the frame that left, or the one for who was chosen.
+fn given_words(given: Given) -> [u64; 3] {
+    match given {
+        Given::Nothing => [MARK; 3],
+        Given::Sent(frame) => words_but_kind(frame),
+        Given::Chosen(named) => [chosen_word(named), MARK, MARK],
+    }
 }
 
 #[cfg(test)]
@@ -127,7 +170,7 @@ mod tests {
     use super::*;
     use reference::generate::draft::Draft;
     use reference::generate::slow::{slow_amr, slow_reply};
-    use reference::State;
+    use reference::{Frame, State};
 
     const ON: Operation = Operation::PowerOn { index: 3, id: 0x0501_0101_0101 };
 
@@ -183,6 +226,43 @@ mod tests {
         pair.segment.link(3, 2).expect("the node is on");
         assert_eq!(pair.look(), Ok(()));
         assert!(pair.step(&Operation::Link { index: 3, state: 1 }, &mut Coverage::new()).is_err());
+    }
+
+    /// Nothing that is seen shows the mark; by choices it is found, at once and after a list.
+    #[test]
+    fn a_mark_on_one_side_alone_is_found() {
+        let alone: [fn(&mut Pair); 2] = [|pair| _ = pair.card.choose(&mut [0]), |pair| _ = pair.segment.choose()];
+        for act in alone {
+            let mut pair = on();
+            pair.step(&Operation::PowerOn { index: 9, id: 9 }, &mut Coverage::new()).expect("both sides agree");
+            assert_eq!((pair.mark(), pair.look()), (Ok(()), Ok(())));
+            act(&mut pair);
+            pair.words.copy_from_slice(pair.card.words());
+            assert_eq!(pair.look(), Ok(()));
+            assert!(pair.mark().is_err() && pair.round().is_err());
+            assert!(pair.step(&Operation::Tick, &mut Coverage::new()).is_err());
+        }
+    }
+
+    /// Nodes 3 and 9 are due, and 23 choices may name one of them, or nobody.
+    #[test]
+    fn a_node_that_has_no_turn_is_found() {
+        let due = std::array::from_fn(|index| index == 3 || index == 9);
+        for named in [Some(3), None] {
+            let mut pair = on();
+            (0..23).for_each(|_| assert_eq!(pair.choice(due, named), Ok(())));
+            assert!(pair.choice(due, named).is_err());
+            let mut pair = on();
+            (0..23).for_each(|_| assert_eq!(pair.choice(due, named), Ok(())));
+            assert_eq!(pair.choice(due, Some(9)).is_ok(), named.is_some());
+        }
+    }
+
+    #[test]
+    fn what_a_choice_changes_besides_the_mark_is_found() {
+        let mut pair = on();
+        pair.card.words_mut()[..2].iter_mut().for_each(|word| *word += 1);
+        assert!(pair.choice([false; Segment::PLACES], Some(3)).is_err());
     }
 
     #[test]

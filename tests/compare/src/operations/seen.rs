@@ -53,14 +53,25 @@ pub fn frame_words(frame: &Frame) -> [u64; 4] {
     [frame.kind.into(), frame.header.into(), frame.len.into(), u64::from_be_bytes(frame.data)]
 }
 
+/// The words of a frame that left, or that was read from a text: header, length, data.
+pub fn words_but_kind(frame: Frame) -> [u64; 3] {
+    let [_, header, len, bytes] = frame_words(&frame);
+    [header, len, bytes]
+}
+
 /// The alias that a node is seen to use.
 fn used(&[state, _, alias, ..]: &Seen) -> Option<u64> {
     let users = [State::Reserved, State::Permitted, State::Leaving].map(state_word);
     users.contains(&state).then_some(alias)
 }
 
+/// The Node ID that a node is seen to have.
+pub fn id(seen: &Seen) -> Option<u64> {
+    (!is_in(State::Off, seen)).then_some(seen[1])
+}
+
 /// The header of the due frame that is seen, and its length and data.
-fn due(&[_, _, _, due, header, len, bytes, ..]: &Seen) -> Option<(u64, [u64; 2])> {
+pub fn due(&[_, _, _, due, header, len, bytes, ..]: &Seen) -> Option<(u64, [u64; 2])> {
     (due == 1).then_some((header, [len, bytes]))
 }
 
@@ -76,7 +87,6 @@ pub fn claim_holds(nodes: &[Seen]) -> bool {
 
 /// No two nodes that are not Off are seen with one Node ID (A.6).
 pub fn node_ids_differ(nodes: &[Seen]) -> bool {
-    let id = |seen: &Seen| (!is_in(State::Off, seen)).then_some(seen[1]);
     (0..nodes.len()).all(|p| (0..p).all(|q| id(&nodes[p]).is_none() || id(&nodes[p]) != id(&nodes[q])))
 }
 

@@ -5,12 +5,13 @@
 
 use std::collections::{BTreeMap, BTreeSet};
 
-use crate::command::{Answer, Command};
+use crate::command::{Answer, Command, Given};
 use crate::frame::Frame;
 use crate::generate::cases::Case;
 use crate::generate::id_marks::{IdMark, IdMarks};
 use crate::generate::link_marks::{LinkMark, LinkMarks};
 use crate::generate::marks::{Mark, Marks};
+use crate::generate::turn_cells::{TurnCell, TurnCells};
 use crate::header;
 use crate::link::Link;
 use crate::node::{Node, Phase, State};
@@ -68,7 +69,7 @@ impl Row {
         rows
     }
 
-    fn has_due(self) -> bool {
+    pub fn has_due(self) -> bool {
         match self {
             Row::Check(_) | Row::Reserve | Row::Reserved { .. } | Row::Leaving { .. } => true,
             Row::Permitted { reply, amd, report, error, host } => {
@@ -107,6 +108,30 @@ pub enum Event {
     },
     /// A link order at its index is refused.
     LinkRefused(u8),
+    /// A choice is made.
+    Choice(Look),
+}
+
+/// What a choice does at a node: names it, goes on since it has no due frame, or ends before it.
+#[derive(Clone, Copy, Debug, PartialEq, Eq, PartialOrd, Ord)]
+pub enum Look {
+    Named,
+    PassedOver,
+    NotReached,
+}
+
+impl Look {
+    pub const ALL: [Look; 3] = [Look::Named, Look::PassedOver, Look::NotReached];
+
+    /// At the node of a place, by a choice with this mark that names that one, or nobody.
+    fn at(place: usize, mark: usize, named: Option<usize>) -> Look {
+        let turn = |place: usize| (place + Segment::PLACES - mark - 1) % Segment::PLACES;
+        match named {
+            Some(named) if named == place => Look::Named,
+            Some(named) if turn(named) < turn(place) => Look::NotReached,
+            _ => Look::PassedOver,
+        }
+    }
 }
 
 #[derive(Clone, Copy, Debug, PartialEq, Eq, PartialOrd, Ord)]
@@ -146,6 +171,7 @@ impl Event {
             events.extend(Link::ALL.map(|is| Event::Link { was, is }));
         }
         events.extend([2, 14].map(Event::LinkRefused));
+        events.extend(Look::ALL.map(Event::Choice));
         events.sort();
         events
     }
@@ -183,7 +209,13 @@ pub fn impossible(row: Row, event: Event) -> Option<&'static str> {
     let host = matches!(row, Row::Permitted { host: true, .. });
     match (row, event) {
         (_, Event::BusFrame | Event::ForeignFrame | Event::Answer(5, 0)) => None,
-        (_, Event::Answer(1, _)) => None,
+        (_, Event::Answer(1, _) | Event::Choice(Look::NotReached)) => None,
+        (_, Event::Choice(Look::Named)) => {
+            reason(!row.has_due(), "a choice names no node without a due frame")
+        }
+        (_, Event::Choice(Look::PassedOver)) => {
+            reason(row.has_due(), "a choice passes over no node with a due frame")
+        }
         (Row::Off, Event::Answer(_, 2) | Event::LinkRefused(2)) => None,
         (Row::Off, _) => Some("Off answers every command but power-on and tick by 2"),
         (_, Event::Answer(_, 2) | Event::LinkRefused(2)) => {
@@ -202,10 +234,11 @@ pub fn impossible(row: Row, event: Event) -> Option<&'static str> {
     }
 }
 
-/// Whether a script may reach a cell: it has no link order, and so no error report waits in it.
+/// Whether a script may reach a cell: it has no choice and no link order, and so no error report
+/// waits in it.
 pub fn in_scripts(row: Row, event: Event) -> bool {
-    let link = matches!(event, Event::Link { .. } | Event::LinkRefused(_));
-    !link && !matches!(row, Row::Permitted { error: true, .. })
+    let no_byte = matches!(event, Event::Link { .. } | Event::LinkRefused(_) | Event::Choice(_));
+    !no_byte && !matches!(row, Row::Permitted { error: true, .. })
 }
 
 /// The cells that can be reached.
@@ -222,6 +255,7 @@ pub struct Coverage {
     pub marks: Marks,
     pub links: LinkMarks,
     pub ids: IdMarks,
+    pub turns: TurnCells,
     /// How often each cell was met, shown or not.
     pub met: BTreeMap<(Row, Event), u64>,
     /// For each place, the cells that its next sends will show.
@@ -231,6 +265,7 @@ pub struct Coverage {
 /// What a command meets, taken before it is carried out.
 struct Before {
     rows: [Row; Segment::PLACES],
+    mark: usize,
     node: Option<Node>,
     front: Option<Frame>,
 }
@@ -240,6 +275,7 @@ impl Before {
         let place = index_of(command).filter(|&place| place < Segment::PLACES);
         Before {
             rows: std::array::from_fn(|place| Row::of(segment.node(place))),
+            mark: segment.mark(),
             node: place.map(|place| *segment.node(place)),
             front: place.and_then(|place| segment.inbox(place).next()).map(|(frame, _)| *frame),
         }
@@ -257,7 +293,7 @@ pub fn index_of(command: &Command) -> Option<usize> {
         | Command::Enquiry { index, .. }
         | Command::Release { index }
         | Command::Link { index, .. } => Some(usize::from(index)),
-        Command::Tick | Command::Foreign { .. } => None,
+        Command::Tick | Command::Foreign { .. } | Command::Choose => None,
     }
 }
 
@@ -300,6 +336,7 @@ impl Coverage {
         self.marks.count_end(segment);
         self.links.count_end();
         self.ids.count_end();
+        self.turns.count_end();
         self.pending = Default::default();
     }
 
@@ -311,9 +348,15 @@ impl Coverage {
         self.marks.count_after(segment, command, &answer);
         self.links.count(before.node.as_ref(), segment, command, &answer);
         self.ids.count(before.node.as_ref(), segment, command, &answer);
+        let due = before.rows.map(Row::has_due);
+        self.turns.count((before.mark, due), before.node.as_ref(), segment, command, &answer);
         let refusal = answer.as_ref().map_or_else(|refusal| refusal.number(), |_| 0);
         self.show_earlier(&before, segment, command, refusal);
-        for (place, event) in events(&before, command, refusal) {
+        let events = match answer {
+            Ok(Given::Chosen(named)) => looks(before.mark, named),
+            _ => events(&before, command, refusal),
+        };
+        for (place, event) in events {
             self.meet(place, (before.rows[place], event));
         }
         answer
@@ -403,9 +446,19 @@ impl Coverage {
     pub fn missing_link_marks(&self) -> Vec<LinkMark> {
         LinkMark::all().into_iter().filter(|mark| !self.links.met(mark)).collect()
     }
+
+    pub fn missing_turn_cells(&self) -> Vec<TurnCell> {
+        TurnCell::all().into_iter().filter(|cell| !self.turns.met(cell)).collect()
+    }
 }
 
-/// What a command was, for each node that it concerns.
+/// What a choice was, for each node.
+fn looks(mark: usize, named: Option<usize>) -> Vec<(usize, Event)> {
+    let look = |place| (place, Event::Choice(Look::at(place, mark, named)));
+    (0..Segment::PLACES).map(look).collect()
+}
+
+/// What any other command was, for each node that it concerns.
 fn events(before: &Before, command: &Command, refusal: u8) -> Vec<(usize, Event)> {
     let everywhere = |event| (0..Segment::PLACES).map(move |place| (place, event));
     let mut events = Vec::new();
@@ -431,7 +484,7 @@ fn events(before: &Before, command: &Command, refusal: u8) -> Vec<(usize, Event)
             events.push((place, taken.map_or(Event::LinkRefused(refusal), link)));
         }
         _ => {
-            let byte = command.byte().expect("all but the link order have one");
+            let byte = command.byte().expect("all others have one");
             events.push((place, Event::Answer(byte, refusal)));
         }
     }

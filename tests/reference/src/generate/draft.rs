@@ -1,7 +1,7 @@
 //! A list being written, as a script too, with the segment as it stands after it.
 
 use crate::alias::Alias;
-use crate::command::{Answer, Command};
+use crate::command::{Answer, Command, Given};
 use crate::frame::{node_id_bytes, Frame, ELEVEN_BIT};
 use crate::header::{self, Header, AMD, AME};
 use crate::node::{Owed, Phase, State};
@@ -9,7 +9,7 @@ use crate::segment::Segment;
 
 /// Each method that writes a command leaves the answer in `answer`.
 pub struct Draft {
-    /// The script: all of the list but its link orders.
+    /// The script: all of the list but its link orders and choices.
     pub bytes: Vec<u8>,
     pub list: Vec<Command>,
     pub segment: Segment,
@@ -18,7 +18,7 @@ pub struct Draft {
 
 impl Default for Draft {
     fn default() -> Self {
-        Draft { bytes: vec![], list: vec![], segment: Segment::new(), answer: Ok(None) }
+        Draft { bytes: vec![], list: vec![], segment: Segment::new(), answer: Ok(Given::Nothing) }
     }
 }
 
@@ -83,6 +83,10 @@ impl Draft {
 
     pub fn link(&mut self, index: u8, state: u8) -> &mut Draft {
         self.push(Command::Link { index, state })
+    }
+
+    pub fn choose(&mut self) -> &mut Draft {
+        self.push(Command::Choose)
     }
 
     /// The alias of a node, in any state.

@@ -6,7 +6,7 @@ use crate::alias::Alias;
 use crate::command::Command;
 use crate::frame::Frame;
 use crate::generate::cases::Case;
-use crate::generate::coverage::{impossible, in_scripts, Coverage, Event, Heed, Row};
+use crate::generate::coverage::{impossible, in_scripts, Coverage, Event, Heed, Look, Row};
 use crate::generate::draft::Draft;
 use crate::generate::prng::Prng;
 use crate::header::{self, Header};
@@ -17,8 +17,10 @@ use crate::segment::Segment;
 
 /// Nodes in one script, besides those that are switched on on the way.
 const NODES: usize = 5;
-/// No script grows far beyond this.
+/// No script grows far beyond this, and no list far beyond so many commands, of which choices have no
+/// byte.
 const BYTES: usize = 2_000;
+const COMMANDS: usize = 10_000;
 /// So many scripts or lists are tried.
 const MOST: usize = 400;
 
@@ -31,8 +33,8 @@ pub struct Filler<'a> {
     events: Vec<Event>,
     /// Rows in which a node stands ready for the last part.
     taken: Vec<Row>,
-    /// Whether there may be link orders: in a list, not in a script.
-    links: bool,
+    /// Whether it is a list, in which there may be link orders and choices, and no script.
+    is_list: bool,
 }
 
 /// Scripts that reach every cell that scripts can, counted in `cover` as they are written.
@@ -40,24 +42,24 @@ pub fn scripts(cover: &mut Coverage, rng: &mut Prng) -> Vec<Vec<u8>> {
     fill(cover, rng, false).into_iter().map(|draft| draft.bytes).collect()
 }
 
-/// Lists with link orders that reach every cell, counted in `cover` as they are written.
+/// Lists with link orders and choices that reach every cell, counted in `cover` as they are written.
 pub fn lists(cover: &mut Coverage, rng: &mut Prng) -> Vec<Vec<Command>> {
     fill(cover, rng, true).into_iter().map(|draft| draft.list).collect()
 }
 
 /// One after another until no cell is missing.
-fn fill(cover: &mut Coverage, rng: &mut Prng, links: bool) -> Vec<Draft> {
-    let missing = if links { Coverage::missing_in_lists } else { Coverage::missing_cells };
+fn fill(cover: &mut Coverage, rng: &mut Prng, is_list: bool) -> Vec<Draft> {
+    let missing = if is_list { Coverage::missing_in_lists } else { Coverage::missing_cells };
     let mut drafts = Vec::new();
     while drafts.len() < MOST && !missing(cover).is_empty() {
-        drafts.push(filled(cover, rng, links));
+        drafts.push(filled(cover, rng, is_list));
     }
     drafts
 }
 
-fn filled(cover: &mut Coverage, rng: &mut Prng, links: bool) -> Draft {
+fn filled(cover: &mut Coverage, rng: &mut Prng, is_list: bool) -> Draft {
     let (draft, events, taken) = (Draft::new(), Event::all(), vec![]);
-    let mut filler = Filler { draft, cover, rng, events, taken, links };
+    let mut filler = Filler { draft, cover, rng, events, taken, is_list };
     for _ in 0..NODES {
         let index = filler.rng.below(Segment::PLACES) as u8;
         filler.power_on(index);
@@ -71,6 +73,9 @@ fn filled(cover: &mut Coverage, rng: &mut Prng, links: bool) -> Draft {
 impl Filler<'_> {
     /// Long enough, and if it can be, with nodes past the wait for the last part.
     fn is_long_enough(&self) -> bool {
+        if self.draft.list.len() > COMMANDS {
+            return true;
+        }
         let length = self.draft.bytes.len();
         let past_wait = |&i: &u8| {
             !matches!(self.row(i), Row::Check(_) | Row::Wait | Row::Resting | Row::Silent)
@@ -106,7 +111,8 @@ impl Filler<'_> {
     }
 
     fn is_missing(&self, row: Row, event: Event) -> bool {
-        let reachable = impossible(row, event).is_none() && (self.links || in_scripts(row, event));
+        let reachable =
+            impossible(row, event).is_none() && (self.is_list || in_scripts(row, event));
         reachable && !self.cover.cells.contains_key(&(row, event))
     }
 
@@ -229,6 +235,20 @@ impl Filler<'_> {
                 let state = self.rng.pick(&[3, 3, 255, any]);
                 self.push(Command::Link { index, state });
             }
+            Event::Choice(look) => self.choose_until(index, look),
+        }
+    }
+
+    /// Choices until one of them does this at the node. Where two others are due some end before it.
+    fn choose_until(&mut self, index: u8, look: Look) {
+        while look == Look::NotReached && self.others_due(index).len() < 2 {
+            self.newcomer(index);
+        }
+        let row = self.row(index);
+        for _ in 0..Segment::PLACES {
+            if self.is_wanted(row, Event::Choice(look)) {
+                self.push(Command::Choose);
+            }
         }
     }
 
@@ -306,17 +326,29 @@ impl Filler<'_> {
 
     /// Lets some other node send.
     fn bus_frame(&mut self, index: u8) {
-        let others = self.draft.on().into_iter().filter(|&other| other != index);
-        let ready: Vec<u8> = others.filter(|&other| self.draft.has_due(other)).collect();
+        let ready = self.others_due(index);
         if ready.is_empty() {
-            let off = (0..Segment::PLACES as u8).filter(|&i| self.draft.state(i) == State::Off);
-            let other = off.into_iter().find(|&i| i != index).unwrap_or(0);
-            self.power_on(other);
-            self.push(Command::Send { index: other });
+            let index = self.newcomer(index);
+            self.push(Command::Send { index });
         } else {
             let index = self.rng.pick(&ready);
             self.push(Command::Send { index });
         }
+    }
+
+    fn others_due(&self, index: u8) -> Vec<u8> {
+        let others = self.draft.on().into_iter().filter(|&other| other != index);
+        others.filter(|&other| self.draft.has_due(other)).collect()
+    }
+
+    /// Switches on some other node: one that is Off, or else has no due frame.
+    fn newcomer(&mut self, index: u8) -> u8 {
+        let mut others = (0..Segment::PLACES as u8).filter(|&other| other != index);
+        let off = others.clone().find(|&other| self.draft.state(other) == State::Off);
+        let idle = off.or_else(|| others.find(|&other| !self.draft.has_due(other)));
+        let other = idle.expect("some other node has no due frame");
+        self.power_on(other);
+        other
     }
 
     /// Nothing is wanted where the nodes stand: one of them goes on.
@@ -343,7 +375,7 @@ impl Filler<'_> {
     /// Nodes past the wait first, so that those before it go through it together. In a list some
     /// get another link state instead.
     fn go_on(&mut self, on: &[u8]) {
-        if self.links && self.rng.percent(20) {
+        if self.is_list && self.rng.percent(20) {
             let (index, link) = (self.rng.pick(on), self.rng.pick(&Link::ALL));
             return self.tell(index, link);
         }

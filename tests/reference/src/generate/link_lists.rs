@@ -1,5 +1,6 @@
 //! Lists with link orders, which no script can carry: some written on purpose, random walks, and
-//! lists that fill the coverage. They are the same at every run, and are made anew, not stored.
+//! lists that fill the coverage, with choices too. They are the same at every run, and are made anew,
+//! not stored.
 
 use crate::command::Command;
 use crate::generate::coverage::Coverage;

@@ -3,7 +3,7 @@
 
 use std::collections::BTreeMap;
 
-use crate::command::{Answer, Command};
+use crate::command::{Answer, Command, Given};
 use crate::generate::coverage::index_of;
 use crate::header::{self, Kind};
 use crate::link::Link;
@@ -116,10 +116,10 @@ impl LinkMarks {
         if let Command::Link { state, .. } = *command {
             self.count_answer(state, answer);
         }
-        let (Some(place), Some(before), Ok(sent)) = (index_of(command), before, answer) else {
+        let (Some(place), Some(before), Ok(given)) = (index_of(command), before, answer) else {
             return;
         };
-        if let Some(frame) = sent {
+        if let Given::Sent(frame) = given {
             if let Kind::ErrorReport(number) = header::split(frame.header).kind() {
                 self.add(LinkMark::Left(number));
             }

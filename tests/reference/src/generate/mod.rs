@@ -18,5 +18,7 @@ pub mod marks;
 pub mod prng;
 pub mod scenarios;
 pub mod slow;
+pub mod turn_cells;
+pub mod turn_lists;
 pub mod twin;
 pub mod walker;

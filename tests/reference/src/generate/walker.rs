@@ -1,7 +1,7 @@
 //! Random scripts and lists, guided by the segment they make: within given limits, and without any.
 
 use crate::alias::{Alias, ALIASES, MAX_48};
-use crate::command::Command;
+use crate::command::{Command, Given};
 use crate::frame::Frame;
 use crate::generate::cases::Case;
 use crate::generate::draft::Draft;
@@ -10,6 +10,7 @@ use crate::inbox::Inbox;
 use crate::limits::Limits;
 use crate::node::{Node, Owed, Phase, State};
 use crate::segment::Segment;
+use crate::turns::Turns;
 use crate::watch::Watch;
 
 /// How a script goes about it.
@@ -29,6 +30,8 @@ pub struct Temper {
     pub weights: [usize; 8],
     /// So many in a hundred steps are link orders: none in a script, which cannot carry them.
     pub links: usize,
+    /// So many are turns, likewise: a choice, and mostly the send of the node that it names.
+    pub turns: usize,
 }
 
 impl Temper {
@@ -52,6 +55,7 @@ impl Temper {
             tick_run: rng.pick(&[1, 5, 40, 41, 60]),
             weights,
             links: 0,
+            turns: 0,
         }
     }
 }
@@ -93,6 +97,7 @@ pub struct Walker<'a> {
     temper: Temper,
     commands: usize,
     pub watch: Watch,
+    pub turns: Turns,
     /// The most nodes that used an alias at once while A.3 allowed the ages; so for all below.
     pub most_users: usize,
     /// The longest that a node had waited, in ticks, to reserve an alias that another used.
@@ -132,6 +137,7 @@ impl<'a> Walker<'a> {
             temper,
             commands: 0,
             watch: Watch::default(),
+            turns: Turns::default(),
             most_users: 0,
             contested: None,
             reported: false,
@@ -177,6 +183,9 @@ impl<'a> Walker<'a> {
         let index = self.rng.below(self.temper.nodes) as u8;
         if self.temper.links > 0 && self.rng.percent(self.temper.links) {
             return self.link_order(index);
+        }
+        if self.temper.turns > 0 && self.rng.percent(self.temper.turns) {
+            return self.turn();
         }
         match self.rng.weighted(&self.temper.weights.clone()) {
             0 => self.newcomer(index),
@@ -224,6 +233,11 @@ impl<'a> Walker<'a> {
 
     fn send_some(&mut self, index: u8) {
         let index = self.seek(index, |i| self.draft.has_due(i));
+        self.send_at(index);
+    }
+
+    /// A send, within limits mostly with room for its frame.
+    fn send_at(&mut self, index: u8) {
         if self.temper.limits.is_some() && self.rng.percent(90) {
             self.make_room();
         }
@@ -371,6 +385,34 @@ impl<'a> Walker<'a> {
         let above = self.rng.pick(&[3, any]);
         let state = self.rng.pick(&[0, 0, 0, 0, 1, 1, 1, 1, 2, 2, 2, above]);
         self.push(Command::Link { index, state });
+    }
+
+    /// A choice, and then mostly the named node sends. Else its send fails, it is switched on anew,
+    /// nothing comes of it, or more choices follow.
+    fn turn(&mut self) {
+        let named = self.choose();
+        let Some(index) = named else { return };
+        match self.rng.below(12) {
+            0 => self.push(Command::FailedSend { index }),
+            1 => self.power_on(index),
+            2 => {}
+            3 => {
+                for _ in 0..self.rng.pick(&[1, 2, 23, 24]) {
+                    self.choose();
+                }
+            }
+            _ => self.send_at(index),
+        }
+    }
+
+    /// A choice, and the index that it names.
+    fn choose(&mut self) -> Option<u8> {
+        let segment = &self.draft.segment;
+        let due = std::array::from_fn(|place| segment.node(place).due().is_some());
+        self.push(Command::Choose);
+        let Ok(Given::Chosen(named)) = self.draft.answer else { return None };
+        self.turns.see(due, named);
+        named.map(|place| place as u8)
     }
 
     /// Commands that are refused, mostly.

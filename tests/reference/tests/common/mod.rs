@@ -1,9 +1,9 @@
 //! The seed of random tests; a node brought to a state, and its report, for the tests of single
-//! points; all that is seen of a segment. Not every test needs all of it.
+//! points; all that a segment holds; what a command answered. Not every test needs all of it.
 #![allow(dead_code)]
 
 use reference::generate::draft::Draft;
-use reference::{Frame, Node, Refusal, Segment, State, View};
+use reference::{Frame, Given, Node, Refusal, Segment, State, View};
 
 /// Another seed can be given as SEED.
 pub fn seed() -> u64 {
@@ -43,16 +43,32 @@ pub fn in_state(state: State) -> Draft {
 /// Everything that can be seen of a place, with ages.
 type Picture = (Node, View, Vec<u64>, Option<u64>);
 
-/// Of every place; and whether the list is late.
-pub fn picture(segment: &Segment) -> (Vec<Picture>, bool) {
+/// Of every place; and whether the list is late; and the mark.
+pub fn picture(segment: &Segment) -> (Vec<Picture>, bool, usize) {
     let one = |place| {
         let ages = segment.inbox(place).map(|(_, age)| age).collect();
         (*segment.node(place), segment.view(place), ages, segment.owed_age(place))
     };
-    ((0..Segment::PLACES).map(one).collect(), segment.is_late())
+    ((0..Segment::PLACES).map(one).collect(), segment.is_late(), segment.mark())
 }
 
 /// The refusal of the last command, 0 where it was accepted.
 pub fn refusal(draft: &Draft) -> u8 {
     draft.answer.err().map_or(0, Refusal::number)
+}
+
+/// The frame that left by the last command.
+pub fn sent(draft: &Draft) -> Frame {
+    match draft.answer {
+        Ok(Given::Sent(frame)) => frame,
+        other => panic!("no frame left: {other:?}"),
+    }
+}
+
+/// The index that the last command chose, if it named one.
+pub fn chosen(draft: &Draft) -> Option<usize> {
+    match draft.answer {
+        Ok(Given::Chosen(chosen)) => chosen,
+        other => panic!("it was no choice: {other:?}"),
+    }
 }
