@@ -56,7 +56,7 @@ use Rattle.claim.specs.Single.{single, one-meaning}
 use Rattle.claim.specs.NodeIds.{apart-run}
 use Rattle.table.specs.Promise.{around, allAround, OldestFirst, bound, SoundWords, Carries, Tells}
 
--- A LIST, carried out by the code: the commands cs, one after another on one table from all nodes Off, answered as and left
+-- A LIST, carried out by the code: the commands cs, one after another on one table from all nodes Off, answered xs and left
 -- the words t. `Fresh` is what `new` ensures, `Tells` what each command ensures.
 pub data Carried : List Command → List Told → List ℕ → Type 0 where
   begun : {t : List ℕ} → Fresh t → Carried [] [] t

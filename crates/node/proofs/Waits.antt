@@ -1,9 +1,9 @@
 -- Whether a node has a due frame: in Testing by the ticks, in Reserved and Permitted by what waits.
 use mathlib.Core.Path.{_≡_, refl, sym, ap, _∙_}
-use mathlib.Core.Bool.{Bool, true, false, cond, _||_}
-use Prim.Native.Nat.{ℕ, _≤_}
-use lib.Dec.{ltb, leb}
-use borrow.Author.Tests.{ltb-true, ltb-false, le-ltb, lt-leb, le-leb}
+use mathlib.Core.Bool.{Bool, true, false, not, cond, _||_}
+use Prim.Native.Nat.{ℕ}
+use lib.Dec.{ltb}
+use Rattle.state.specs.Concerns.{counts}
 use Rattle.node.specs.Rules.{Due, nothing, next, isDue, errorWaits, errorDue, hostWaits, hostDue, cidFrame, ridFrame, amdFrame, reportFrame, firstWaiting, dueAt, dueOf}
 use Rattle.node.specs.declared.Node.{Node}
 use Rattle.headers.specs.declared.frame.Frame.{Frame}
@@ -40,20 +40,18 @@ waiting-due n =
     first true f d x e = refl
     first false f d x e = e
 
--- after CID 4 has left
-pub waited-due : (w : ℕ) (n : Node) (sent ticks : ℕ) → n .phase ≡ Testing sent ticks → 4 ≤ sent → leb w ticks ≡ isDue (dueOf w n)
+-- in Testing, but while ticks count
+pub testing-due : (w : ℕ) (n : Node) (sent ticks : ℕ) → n .phase ≡ Testing sent ticks → not (counts w (n .phase)) ≡ isDue (dueOf w n)
 unfolding dueOf
-waited-due w n sent ticks e four =
-    go (ltb ticks w) refl
-    ∙ sym (ap (λ (p : Phase). isDue (dueAt w p n)) e
-    ∙ ap (λ (b : Bool). isDue (cond b (next (cidFrame (n .own .id) (n .alias .0) sent)) (cond (ltb ticks w) nothing (next rid)))) (le-ltb sent 4 four))
+testing-due w n sent ticks e =
+    ap (λ (p : Phase). not (counts w p)) e ∙ go (ltb sent 4) (ltb ticks w) ∙ sym (ap (λ (p : Phase). isDue (dueAt w p n)) e)
   where
-    rid : Frame
-    rid = ridFrame (n .alias .0)
-
-    go : (b : Bool) → ltb ticks w ≡ b → leb w ticks ≡ isDue (cond b nothing (next rid))
-    go true e = lt-leb w ticks (ltb-true ticks w e)
-    go false e = le-leb w ticks (ltb-false ticks w e)
+    go : (early counting : Bool)
+        → not (cond early false counting)
+        ≡ isDue (cond early (next (cidFrame (n .own .id) (n .alias .0) sent)) (cond counting nothing (next (ridFrame (n .alias .0)))))
+    go true counting = refl
+    go false true = refl
+    go false false = refl
 
 pub reserved-due : (w : ℕ) (n : Node) → n .phase ≡ Reserved → isDue (dueOf w n) ≡ true
 unfolding dueOf

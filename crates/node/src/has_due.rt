@@ -32,12 +32,7 @@ impl Node {
     {
         let p = self.phase;
         match p {
-            Phase::Testing(sent, ticks) => {
-                if sent < 4 {
-                    return true;
-                }
-                Phase::WAIT <= ticks
-            }
+            Phase::Testing(_, _) => !p.counts(),
             Phase::Reserved => true,
             Phase::Permitted => self.has_waiting(),
             Phase::Leaving(_) => true,

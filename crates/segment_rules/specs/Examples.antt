@@ -560,7 +560,8 @@ allTesting = segment (λ k. place testing []) firstMark
 abbrev pub ofChoices : List Example
 ofChoices =
     -- the mark is at first 23: node 0 is the first after it
-    chooses start 23 [] [] firstMark
+    chooses start (start .mark) (powerOn 0 0x050101010101 ∷ powerOn 1 0x050101010102 ∷ choose ∷ []) (plain ∷ plain ∷ named 0 ∷ []) 0
+    ∷ chooses start (start .mark) [] [] 23
     ∷ chooses allTesting firstMark (choose ∷ []) (named 0 ∷ []) 0
     -- the first with a due frame after the one chosen last, wrapping past 23
     ∷ chooses allTesting 7 (choose ∷ choose ∷ []) (named 8 ∷ named 9 ∷ []) 9
@@ -569,6 +570,11 @@ ofChoices =
     ∷ chooses (two 3 testing [] 9 testing []) 8 (choose ∷ []) (named 9 ∷ []) 9
     ∷ chooses (two 3 testing [] 9 testing []) 9 (choose ∷ []) (named 3 ∷ []) 3
     ∷ chooses (two 3 testing [] 23 testing []) 3 (choose ∷ []) (named 23 ∷ []) 23
+    -- all the way round, in their order
+    ∷ chooses allTesting 23 (replicate 24 choose) (named 0 ∷ named 1 ∷ named 2 ∷ named 3 ∷ named 4 ∷ named 5 ∷ named 6 ∷ named 7 ∷ named 8 ∷ named 9 ∷ named 10 ∷ named 11 ∷ named 12 ∷ named 13 ∷ named 14 ∷ named 15 ∷ named 16 ∷ named 17 ∷ named 18 ∷ named 19 ∷ named 20 ∷ named 21 ∷ named 22 ∷ named 23 ∷ []) 23
+    -- whatever is due, the first has its turn
+    ∷ chooses (two 3 testing [] 9 replying []) 23 (choose ∷ []) (named 3 ∷ []) 3
+    ∷ chooses (two 3 hostWaiting [] 9 testing []) 23 (choose ∷ []) (named 3 ∷ []) 3
     -- the node chosen last is looked at last, and is named where no other has a due frame
     ∷ chooses (alone 3 testing []) 3 (choose ∷ []) (named 3 ∷ []) 3
     ∷ chooses (alone 0 testing []) 0 (choose ∷ []) (named 0 ∷ []) 0
@@ -577,29 +583,42 @@ ofChoices =
     ∷ chooses start 7 (choose ∷ []) (chose nobody ∷ []) 7
     ∷ chooses (two 3 permitted (frame1 ∷ []) 4 (inState Silent) []) 7 (choose ∷ []) (chose nobody ∷ []) 7
     -- which nodes have a due frame: in Testing all but in the wait, in Reserved and Leaving all, in Permitted those with one waiting
+    ∷ chooses (alone 3 (inState (Testing 3 0)) []) 7 (choose ∷ []) (named 3 ∷ []) 3
     ∷ chooses (alone 3 (inState (Testing 4 200)) []) 7 (choose ∷ []) (chose nobody ∷ []) 7
     ∷ chooses (alone 3 (inState (Testing 4 201)) []) 7 (choose ∷ []) (named 3 ∷ []) 3
     ∷ chooses (alone 3 (inState Reserved) []) 7 (choose ∷ []) (named 3 ∷ []) 3
+    ∷ chooses (alone 3 (waits (inState Reserved) (withReply noneWaiting true)) []) 7 (choose ∷ []) (named 3 ∷ []) 3
     ∷ chooses (alone 3 replying []) 7 (choose ∷ []) (named 3 ∷ []) 3
     ∷ chooses (alone 3 (waits permitted (withAmd noneWaiting true)) []) 7 (choose ∷ []) (named 3 ∷ []) 3
     ∷ chooses (alone 3 duplicate []) 7 (choose ∷ []) (named 3 ∷ []) 3
     ∷ chooses (alone 3 (reporting ErrorPassive Report0) []) 7 (choose ∷ []) (named 3 ∷ []) 3
+    ∷ chooses (alone 3 (reporting ErrorPassive Report1) []) 7 (choose ∷ []) (named 3 ∷ []) 3
+    ∷ chooses (alone 3 (reporting ErrorActive Report2) []) 7 (choose ∷ []) (named 3 ∷ []) 3
+    ∷ chooses (alone 3 (reporting ErrorActive Report3) []) 7 (choose ∷ []) (named 3 ∷ []) 3
     ∷ chooses (alone 3 hostWaiting []) 7 (choose ∷ []) (named 3 ∷ []) 3
+    ∷ chooses (alone 3 (waits permitted (withHost noneWaiting (Enquiry 0 0))) []) 7 (choose ∷ []) (named 3 ∷ []) 3
     ∷ chooses (alone 3 leaving []) 7 (choose ∷ []) (named 3 ∷ []) 3
+    ∷ chooses (alone 3 (inState (Leaving Release)) []) 7 (choose ∷ []) (named 3 ∷ []) 3
     ∷ chooses (alone 3 (inState Resting) []) 7 (choose ∷ []) (chose nobody ∷ []) 7
     ∷ chooses (alone 3 (inState Silent) []) 7 (choose ∷ []) (chose nobody ∷ []) 7
     -- there are 24 places
     ∷ chooses (alone 24 testing []) 7 (choose ∷ []) (chose nobody ∷ []) 7
-    -- the choice sends nothing: node, inbox and ages are as they were, and it is accepted though an inbox is full
+    -- never refused: where nobody is named, and though an inbox is full
+    ∷ says start choose (accepted done)
+    ∷ says (two 3 testing [] 4 testing (many 32)) choose (accepted done)
+    -- the choice sends nothing, and no time passes: node, inbox and ages are as they were
+    ∷ makes (alone 3 (inState (Testing 4 7)) []) choose 3 (inState (Testing 4 7)) []
     ∷ makes (alone 3 testing (frame1 ∷ [])) choose 3 testing (frame1 ∷ [])
     ∷ makes (two 3 testing [] 4 replying (frame1 ∷ [])) choose 4 (beside replying) (frame1 ∷ [])
     ∷ ageing (alone 3 replying (frame1 ∷ [])) (agesAt 3 (9 ∷ []) 7) (choose ∷ []) 3 (9 ∷ []) 7
-    ∷ says (two 3 testing [] 4 testing (many 32)) choose (accepted done)
     -- the mark moves on every choice that names a node, whatever the send then answers: here 5
     ∷ says (two 3 testing [] 4 testing (many 32)) (send 3) (refused 5)
     ∷ chooses (two 3 testing [] 4 testing (many 32)) 23 (choose ∷ send 3 ∷ choose ∷ []) (named 3 ∷ plain ∷ named 4 ∷ []) 4
     -- power-on leaves it, of the node chosen last too; so do a send, a failed send, a delivery, a tick, a foreign frame, a host order
     ∷ chooses (alone 3 testing []) 3 (powerOn 3 0x050101010101 ∷ []) (plain ∷ []) 3
+    ∷ chooses (alone 3 testing []) 7 (powerOn 4 0x050101010102 ∷ []) (plain ∷ []) 7
+    ∷ chooses (alone 3 testing []) 3 (send 3 ∷ fail 3 ∷ []) (plain ∷ plain ∷ []) 3
+    ∷ chooses (alone 3 permitted (frame1 ∷ [])) 3 (deliver 3 ∷ link 3 1 ∷ release 3 ∷ send 3 ∷ []) (plain ∷ plain ∷ plain ∷ plain ∷ []) 3
     ∷ chooses (alone 3 testing []) 7 (powerOn 4 0x050101010102 ∷ choose ∷ choose ∷ []) (plain ∷ named 3 ∷ named 4 ∷ []) 4
     ∷ chooses (alone 3 testing []) 7 (send 3 ∷ fail 3 ∷ []) (plain ∷ plain ∷ []) 7
     ∷ chooses (alone 3 permitted (frame1 ∷ [])) 7 (deliver 3 ∷ tick ∷ foreign frame2 ∷ []) (plain ∷ plain ∷ plain ∷ []) 7
@@ -632,7 +651,7 @@ examples-hold = (
               (
                 (refl, (refl, (refl, (refl, (refl, (refl, (refl, (refl, (refl, (refl, (refl, (refl, (refl, (refl, (refl, (refl, ((refl, refl), (refl, (refl, (refl, (refl, ((refl, refl), ((refl, refl), tt))))))))))))))))))))))),
                 (
-                  ((refl, refl), ((refl, refl), ((refl, refl), ((refl, refl), ((refl, refl), ((refl, refl), ((refl, refl), ((refl, refl), ((refl, refl), ((refl, refl), ((refl, refl), ((refl, refl), ((refl, refl), ((refl, refl), ((refl, refl), ((refl, refl), ((refl, refl), ((refl, refl), ((refl, refl), ((refl, refl), ((refl, refl), ((refl, refl), ((refl, refl), ((refl, refl), ((refl, refl), (refl, (refl, ((refl, refl), (refl, (refl, ((refl, refl), ((refl, refl), ((refl, refl), ((refl, refl), ((refl, refl), ((refl, refl), ((refl, refl), ((refl, refl), tt)))))))))))))))))))))))))))))))))))))),
+                  ((refl, refl), ((refl, refl), ((refl, refl), ((refl, refl), ((refl, refl), ((refl, refl), ((refl, refl), ((refl, refl), ((refl, refl), ((refl, refl), ((refl, refl), ((refl, refl), ((refl, refl), ((refl, refl), ((refl, refl), ((refl, refl), ((refl, refl), ((refl, refl), ((refl, refl), ((refl, refl), ((refl, refl), ((refl, refl), ((refl, refl), ((refl, refl), ((refl, refl), ((refl, refl), ((refl, refl), ((refl, refl), ((refl, refl), ((refl, refl), ((refl, refl), ((refl, refl), ((refl, refl), ((refl, refl), ((refl, refl), ((refl, refl), (refl, (refl, (refl, (refl, (refl, ((refl, refl), (refl, ((refl, refl), ((refl, refl), ((refl, refl), ((refl, refl), ((refl, refl), ((refl, refl), ((refl, refl), ((refl, refl), ((refl, refl), ((refl, refl), ((refl, refl), tt)))))))))))))))))))))))))))))))))))))))))))))))))))))),
                   tt,
                 ),
               ),

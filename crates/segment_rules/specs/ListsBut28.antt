@@ -1,6 +1,6 @@
--- A.5 over lists: whatever bit 28 foreign equipment sends, every answer and every node are the same, the mark too, the inboxes
--- but for that bit, and one list is kept where the other is. What two lists of commands and two segments are that differ in no more stands
--- first, and what is claimed of them (`RunsBut28`) last; these are to be believed.
+-- A.5 over lists: whatever bit 28 foreign equipment sends, every answer, every node and the mark are the same, the inboxes are too
+-- but for that bit, and one list is kept where the other is. What two lists of commands and two segments are that differ in no more
+-- stands first, and what is claimed of them (`RunsBut28`) last; these are to be believed.
 use mathlib.Core.Path.{_≡_, refl, ap, subst, _∙_}
 use mathlib.Core.Bool.{Bool, true, false, not, cond, _&&_, _||_}
 use mathlib.Core.List.{List, [], _∷_, _++_}

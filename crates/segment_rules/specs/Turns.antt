@@ -1,9 +1,10 @@
 -- A.8 over lists: a node that keeps a due frame is chosen within 24 choices, no matter what the others queue or receive; and within
--- 23 it need not be. What a list of choices is and what it names stand first; these are to be believed, with the two theorems.
-use mathlib.Core.Path.{_≡_, refl, sym, ap, subst, _∙_}
+-- 23 it need not be. How many choices a list has, when a node has a due frame at each of them, and when one of them names it stand
+-- first; these are to be believed, with what `Within` says.
+use mathlib.Core.Path.{_≡_, refl, sym, ap, _∙_}
 use mathlib.Core.Bool.{Bool, true, false, true≢false, not, cond, _&&_, _||_}
 use mathlib.Core.Logic.{_⊎_, inl, inr, ⊎-elim}
-use mathlib.Core.List.{List, [], _∷_}
+use mathlib.Core.List.{List, [], _∷_, _++_}
 use Prim.Native.Nat.{ℕ, zero, suc, _+_, _-_, _%_, _<_, _≤_}
 use native.Mathlib.Omega.{arith}
 use native.Mathlib.Nat.{not-suc-le-zero}
@@ -11,7 +12,7 @@ use lib.Dec.{ltb, eqb}
 use lib.ListN.{replicate}
 use borrow.Author.Tests.{ltb-true, ltb-false, eq-eqb}
 use Rattle.headers.specs.Laws.{not-accepted, both}
-use Rattle.node.specs.Rules.{Answer, accepted, refused, Value, done, offNode, fresh, dueOf, onPowerOn, cidFrame}
+use Rattle.node.specs.Rules.{Answer, accepted, refused, Value, done, offNode, fresh, counted, dueOf, cidFrame, sentOf, onPowerOn, onLeave}
 use Rattle.segment_rules.specs.Rules.{
   places,
   Segment,
@@ -102,32 +103,6 @@ mark-step S c = go (answer S c) refl
     go (accepted v) e = refl
     go (refused number) e = kept c number e
 
--- and it stays among the places
-module _ (S : Segment) (m : ℕ) (hm : m < places) where
-  named-inside : (n k : ℕ) → k < places → markBy (firstDue S n k) m < places
-  unfolding firstDue
-  named-inside zero k h = hm
-  named-inside (suc n) k h = go (hasDue (S .at k)) (named-inside n (after k) (omega arith))
-    where
-      go : (b : Bool) → markBy (firstDue S n (after k)) m < places → markBy (cond b (names k) (firstDue S n (after k))) m < places
-      go true r = h
-      go false r = r
-
-mark-inside : (S : Segment) → S .mark < places → (c : Command) → step S c .mark < places
-mark-inside S h c = subst (λ (m : ℕ). m < places) (sym (mark-step S c)) (go c)
-  where
-    go : (c : Command) → markAfter S c < places
-    go (one n x) = h
-    go (send n) = h
-    go tick = h
-    go (foreign f) = h
-    go choose = named-inside S (S .mark) h places (after (S .mark)) (omega arith)
-
-mark-run : (cs : List Command) (S : Segment) → S .mark < places → run S cs .mark < places
-unfolding run
-mark-run [] S h = h
-mark-run (c ∷ cs) S h = mark-run cs (step S c) (mark-inside S h c)
-
 -- A CHOICE names no node beyond the first with a due frame
 
 -- A place so many after j is no further than another.
@@ -157,19 +132,24 @@ first-found S (suc n) j d hj l h = go (hasDue (S .at j)) refl (λ i l h. first-f
     go true q r = (0, omega arith, ap names (sym here))
     go false q r = further d l q h r
 
-never-both : (k : ℕ) → nobody ≡ names k → ⊥
-never-both k e = let z : _≡_ {A = ℕ} 0 1 = cc in omega arith
+nobody-named : (k : ℕ) → nobody ≡ names k → ⊥
+nobody-named k e = let z : _≡_ {A = ℕ} 0 1 = cc in omega arith
 
--- Who is named has a due frame, so that its send is refused by 5 at most.
-pub named-due : (S : Segment) (n j k : ℕ) → firstDue S n j ≡ names k → hasDue (S .at k) ≡ true
+found-due : (S : Segment) (n j k : ℕ) → j < places → firstDue S n j ≡ names k → (k < places) × (hasDue (S .at k) ≡ true)
 unfolding firstDue
-named-due S zero j k e = absurd (never-both k e)
-named-due S (suc n) j k e = go (hasDue (S .at j)) refl e (named-due S n (after j) k)
+found-due S zero j k h e = absurd (nobody-named k e)
+found-due S (suc n) j k h e = go (hasDue (S .at j)) refl e (found-due S n (after j) k (omega arith))
   where
     go : (b : Bool) → hasDue (S .at j) ≡ b → cond b (names j) (firstDue S n (after j)) ≡ names k
-        → (firstDue S n (after j) ≡ names k → hasDue (S .at k) ≡ true) → hasDue (S .at k) ≡ true
-    go true q e r = ap (λ (i : ℕ). hasDue (S .at i)) (sym (ap (λ (x : Choice). markBy x 0) e)) ∙ q
+        → (firstDue S n (after j) ≡ names k → (k < places) × (hasDue (S .at k) ≡ true)) → (k < places) × (hasDue (S .at k) ≡ true)
+    go true q e r =
+        let is : j ≡ k = ap (λ (x : Choice). markBy x 0) e in
+        (omega (arith, is), ap (λ (i : ℕ). hasDue (S .at i)) (sym is) ∙ q)
     go false q e r = r e
+
+-- Who is named is one of the 24 and has a due frame, so that its send is refused by 5 at most.
+pub named-due : (S : Segment) (k : ℕ) → choice S ≡ names k → (k < places) × (hasDue (S .at k) ≡ true)
+named-due S k e = found-due S places (after (S .mark)) k (omega arith) e
 
 -- Where nobody is named, no node has a due frame.
 pub none-due : (S : Segment) → choice S ≡ nobody → (k : ℕ) → k < places → hasDue (S .at k) ≡ false
@@ -188,7 +168,7 @@ none-due S e k h = go (hasDue (S .at k)) refl
     named q = first-found S places m d (omega arith) (omega arith) (ap (λ (i : ℕ). hasDue (S .at i)) there ∙ q)
 
     go : (b : Bool) → hasDue (S .at k) ≡ b → b ≡ false
-    go true q = let x = named q in absurd (never-both _ (sym e ∙ x .2))
+    go true q = let x = named q in absurd (nobody-named ((m + x .0) % places) (sym e ∙ x .2))
     go false q = refl
 
 -- LISTS
@@ -200,7 +180,7 @@ or-right : (a b : Bool) → b ≡ true → (a || b) ≡ true
 or-right true b e = refl
 or-right false b e = e
 
-module _ (k : ℕ) (S : Segment) (d : ℕ) (hm : S .mark < places) (hd : d < places) (at : k ≡ (after (S .mark) + d) % places) where
+module _ (k : ℕ) (S : Segment) (d : ℕ) (hd : d < places) (at : k ≡ (after (S .mark) + d) % places) where
   -- So many places, and no more than n, are passed over before node k.
   abbrev Nearer : Segment → (n : ℕ) → Type 0
   Nearer T n = (e : ℕ) × (e < places) × (k ≡ (after (T .mark) + e) % places) × (e < n)
@@ -237,17 +217,17 @@ module _ (k : ℕ) (S : Segment) (d : ℕ) (hm : S .mark < places) (hd : d < pla
   moved (foreign f) due n l = inr (as-far (foreign f) refl n l)
   moved choose due n l = nearer due n l
 
-named-soon : (k : ℕ) (cs : List Command) (S : Segment) (d : ℕ) → S .mark < places → d < places → k ≡ (after (S .mark) + d) % places
+named-soon : (k : ℕ) (cs : List Command) (S : Segment) (d : ℕ) → d < places → k ≡ (after (S .mark) + d) % places
     → d < choices cs → dueAtEach k S cs ≡ true → namedIn k (answers S cs) ≡ true
 unfolding choices dueAtEach namedIn answers
-named-soon k [] S d hm hd at l due = absurd (not-suc-le-zero l)
-named-soon k (c ∷ cs) S d hm hd at l due =
+named-soon k [] S d hd at l due = absurd (not-suc-le-zero l)
+named-soon k (c ∷ cs) S d hd at l due =
     let p = both (not (isChoice c) || hasDue (S .at k)) (dueAtEach k (step S c) cs) due in
     ⊎-elim
     (λ (q : isNamed k (besides S c) ≡ true). or-left (isNamed k (besides S c)) (namedIn k (answers (step S c) cs)) q)
-    (λ (r : Nearer k S d hm hd at (step S c) (choices cs)). or-right (isNamed k (besides S c)) (namedIn k (answers (step S c) cs))
-    (named-soon k cs (step S c) (r .0) (mark-inside S hm c) (r .1) (r .2) (r .3) (p .1)))
-    (moved k S d hm hd at c (p .0) (choices cs) l)
+    (λ (r : Nearer k S d hd at (step S c) (choices cs)). or-right (isNamed k (besides S c)) (namedIn k (answers (step S c) cs))
+    (named-soon k cs (step S c) (r .0) (r .1) (r .2) (r .3) (p .1)))
+    (moved k S d hd at c (p .0) (choices cs) l)
 
 -- THE THEOREM
 
@@ -255,9 +235,8 @@ pub within-24 : Within places
 within-24 before cs k hk l due =
     let S = run start before in
     let m = S .mark in
-    let hm : m < places = mark-run before start (omega arith) in
     let d : ℕ = (k + places - after m) % places in
-    named-soon k cs S d hm (omega arith) (omega (arith, hm, hk)) (omega (arith, l)) due
+    named-soon k cs S d (omega arith) (omega (arith, hk)) (omega (arith, l)) due
 
 -- 23 ARE NOT ENOUGH, by computation: all 24 nodes are on, and each has its first frame due at all 23 choices. They name nodes 0 to 22.
 
@@ -268,13 +247,13 @@ onFrom (suc n) i = powerOn i (0x050101010101 + i) ∷ onFrom n (suc i)
 abbrev pub allOn : List Command
 allOn = onFrom places 0
 
-pub record Passed (n : ℕ) (before cs : List Command) (k : ℕ) : Type 0 where
+pub record PassedOver (n : ℕ) (before cs : List Command) (k : ℕ) : Type 0 where
   pub inside : k < places
   pub many : choices cs ≡ n
   pub due : dueAtEach k (run start before) cs ≡ true
   pub passed : namedIn k (answers (run start before) cs) ≡ false
 
-pub passed-over : Passed 23 allOn (replicate 23 choose) 23
+pub passed-over : PassedOver 23 allOn (replicate 23 choose) 23
 unfolding choices dueAtEach namedIn answers run firstDue someOther offNode fresh dueOf onPowerOn cidFrame
 passed-over = record { inside = omega arith; many = refl; due = refl; passed = refl }
 
@@ -288,3 +267,15 @@ no-fewer n w = go (ltb n places) refl
         let l : n ≤ choices (replicate 23 choose) = omega (arith, ltb-true n places e, x .many) in
         absurd (true≢false (sym (w allOn (replicate 23 choose) 23 (x .inside) l (x .due)) ∙ x .passed))
     go false e = ltb-false n places e
+
+-- At each choice, and not at each command: between these two choices node 0 has sent its four CIDs, and has no due frame.
+abbrev pub oneOn : List Command
+oneOn = powerOn 0 0x050101010101 ∷ []
+
+abbrev pub fourCids : List Command
+fourCids = choose ∷ replicate 4 (send 0)
+
+pub only-at-choices :
+    (dueAtEach 0 (run start oneOn) (fourCids ++ powerOn 0 0x050101010101 ∷ choose ∷ []) ≡ true) × (hasDue (run start (oneOn ++ fourCids) .at 0) ≡ false)
+unfolding dueAtEach run firstDue someOther offNode fresh dueOf onPowerOn cidFrame onLeave sentOf counted
+only-at-choices = (refl, refl)

@@ -29,7 +29,7 @@ module _ (t : List ℕ) (sound : SoundWords t) (i id : ℕ) (h : i < places) (o 
   said y e = sym (ap (λ (z : Outcome). z .answer) eo) ∙ e
 
   pub power-refused : (a : Answer Value) → a ≡ o .answer → isRefused a ≡ true → Carries (one i (orders (powerOn id))) t (plainly a) t
-  power-refused a ea r = go (a) refl r
+  power-refused a ea r = go a refl r
     where
       go : (y : Answer Value) → a ≡ y → isRefused y ≡ true → Carries (one i (orders (powerOn id))) t (plainly a) t
       go (accepted v) e r = absurd (false≢true r)
