@@ -119,11 +119,7 @@ const SUMMED_UP: [(&str, &str); 5] = [
 #[test]
 fn the_summary_names_the_lines() {
     for (list, words) in SUMMED_UP {
-        let summary = shown(list).summary;
-        let (_, rest) = summary.split_once("No collisions.\n").expect("there were none");
-        let commands = rest.lines().find(|line| line.contains(" of them refused; "));
-        let (told, _) = rest.split_once(commands.expect("they are counted")).expect("a line");
-        assert_eq!(told, words, "{list}");
+        assert_eq!(shown(list).in_between(), words, "{list}");
     }
 }
 

@@ -166,12 +166,9 @@ const SUMMED_UP: [(&str, &str); 6] = [
 #[test]
 fn the_summary_says_what_there_is_to_say() {
     for (list, words) in SUMMED_UP {
-        let summary = shown(list).summary;
-        let (_, rest) = summary.split_once("No collisions.\n").expect("there were none");
-        let commands = rest.lines().find(|line| line.contains(" of them refused; "));
-        let (told, _) = rest.split_once(commands.expect("they are counted")).expect("a line");
-        assert_eq!(told, words, "{list}");
-        assert_eq!(summary.contains("  inbox  turns\n"), !words.is_empty(), "{list}");
+        let shown = shown(list);
+        assert_eq!(shown.in_between(), words, "{list}");
+        assert_eq!(shown.summary.contains("  inbox  turns\n"), !words.is_empty(), "{list}");
     }
 }
 

@@ -1,7 +1,7 @@
 -- Laws of limits: how far ages can have grown, also where no time passes; and that the rules' tests say the same.
 use mathlib.Core.Path.{_≡_, refl, sym, ap, subst, _∙_}
 use mathlib.Core.Logic.{_≢_}
-use mathlib.Core.Bool.{Bool, true, false, false≢true, cond, _||_}
+use mathlib.Core.Bool.{Bool, true, false, false≢true, cond, _||_, or-true}
 use mathlib.Core.List.{List, [], _∷_, _++_, map}
 use Prim.Native.Nat.{ℕ, zero, suc, _+_, _<_, _≤_}
 use native.Mathlib.Omega.{arith}
@@ -192,10 +192,6 @@ unfolding old
 old-some i o zero S G k h e = absurd (not-suc-le-zero h)
 old-some i o (suc n) S G k h e = go (eqb k n) refl (λ d. old-some i o n S G k (omega arith) e)
   where
-    or-true : (x : Bool) → (x || true) ≡ true
-    or-true true = refl
-    or-true false = refl
-
     go : (c : Bool) → eqb k n ≡ c → (k ≢ n → old i o n S G ≡ true) → (oldAt i o (S .at n .node) (G n) || old i o n S G) ≡ true
     go true q r = ap (λ (x : Bool). x || old i o n S G) (subst (λ (m : ℕ). oldAt i o (S .at m .node) (G m) ≡ true) (eqb-true k n q) e)
     go false q r = ap (λ (x : Bool). oldAt i o (S .at n .node) (G n) || x) (r (eqb-false k n q)) ∙ or-true (oldAt i o (S .at n .node) (G n))

@@ -1,7 +1,7 @@
 -- Laws of a search among the other places: what it says of each of them.
 use mathlib.Core.Path.{_≡_, refl, sym, ap, subst, _∙_}
 use mathlib.Core.Logic.{_≢_}
-use mathlib.Core.Bool.{Bool, true, false, true≢false, not, _&&_, _||_}
+use mathlib.Core.Bool.{Bool, true, false, true≢false, not, _&&_, _||_, or-true}
 use Prim.Native.Nat.{ℕ, zero, suc, _<_}
 use native.Mathlib.Omega.{arith}
 use native.Mathlib.Nat.{not-suc-le-zero}
@@ -16,10 +16,6 @@ module _ (Q : Place → Bool) (i : ℕ) (S : Segment) where
   some-other zero k h ne e = absurd (not-suc-le-zero h)
   some-other (suc n) k h ne e = go (eqb k n) refl (λ d. some-other n k (omega arith) ne e)
     where
-      or-true : (b : Bool) → (b || true) ≡ true
-      or-true true = refl
-      or-true false = refl
-
       go : (c : Bool) → eqb k n ≡ c → (k ≢ n → someOther Q i n S ≡ true) → ((not (eqb n i) && Q (S .at n)) || someOther Q i n S) ≡ true
       go true q r =
           let e′ : k ≡ n = eqb-true k n q in

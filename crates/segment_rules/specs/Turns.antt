@@ -2,7 +2,7 @@
 -- 23 it need not be. How many choices a list has, when a node has a due frame at each of them, and when one of them names it stand
 -- first; these are to be believed, with what `Within` says.
 use mathlib.Core.Path.{_≡_, refl, sym, ap, _∙_}
-use mathlib.Core.Bool.{Bool, true, false, true≢false, not, cond, _&&_, _||_}
+use mathlib.Core.Bool.{Bool, true, false, true≢false, not, cond, _&&_, _||_, or-true}
 use mathlib.Core.Logic.{_⊎_, inl, inr, ⊎-elim}
 use mathlib.Core.List.{List, [], _∷_, _++_}
 use Prim.Native.Nat.{ℕ, zero, suc, _+_, _-_, _%_, _<_, _≤_}
@@ -173,13 +173,6 @@ none-due S e k h = go (hasDue (S .at k)) refl
 
 -- LISTS
 
-or-left : (a b : Bool) → a ≡ true → (a || b) ≡ true
-or-left a b e = ap (λ (x : Bool). x || b) e
-
-or-right : (a b : Bool) → b ≡ true → (a || b) ≡ true
-or-right true b e = refl
-or-right false b e = e
-
 module _ (k : ℕ) (S : Segment) (d : ℕ) (hd : d < places) (at : k ≡ (after (S .mark) + d) % places) where
   -- So many places, and no more than n, are passed over before node k.
   abbrev Nearer : Segment → (n : ℕ) → Type 0
@@ -224,9 +217,9 @@ named-soon k [] S d hd at l due = absurd (not-suc-le-zero l)
 named-soon k (c ∷ cs) S d hd at l due =
     let p = both (not (isChoice c) || hasDue (S .at k)) (dueAtEach k (step S c) cs) due in
     ⊎-elim
-    (λ (q : isNamed k (besides S c) ≡ true). or-left (isNamed k (besides S c)) (namedIn k (answers (step S c) cs)) q)
-    (λ (r : Nearer k S d hd at (step S c) (choices cs)). or-right (isNamed k (besides S c)) (namedIn k (answers (step S c) cs))
-    (named-soon k cs (step S c) (r .0) (r .1) (r .2) (r .3) (p .1)))
+    (λ (q : isNamed k (besides S c) ≡ true). ap (λ (b : Bool). b || namedIn k (answers (step S c) cs)) q)
+    (λ (r : Nearer k S d hd at (step S c) (choices cs)). ap (λ (b : Bool). isNamed k (besides S c) || b)
+    (named-soon k cs (step S c) (r .0) (r .1) (r .2) (r .3) (p .1)) ∙ or-true (isNamed k (besides S c)))
     (moved k S d hd at c (p .0) (choices cs) l)
 
 -- THE THEOREM

@@ -18,6 +18,15 @@ pub struct Shown {
     pub longest: Ages,
 }
 
+impl Shown {
+    /// What the summary says between the collisions, of which there were none, and the number of commands.
+    pub fn in_between(&self) -> &str {
+        let (_, rest) = self.summary.split_once("No collisions.\n").expect("there were none");
+        let commands = rest.lines().find(|line| line.contains(" of them refused; "));
+        rest.split_once(commands.expect("they are counted")).expect("a line").0
+    }
+}
+
 /// What a script by name shows, without colours.
 pub fn shown(text: &str) -> Shown {
     shown_of(&expanded(text), Paint(false))
