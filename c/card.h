@@ -25,7 +25,8 @@
 extern "C" {
 #endif
 
-/* The words of a table. How they are laid out is no caller's business: card_look and card_inbox show what they hold. */
+/* The words of a table. How they are laid out is no caller's business: card_look and card_inbox show what they hold, and
+ * card_choose goes by the mark, which nothing else shows. */
 #define CARD_WORDS 1928
 
 /* The words of a map of foreign aliases. */
@@ -113,8 +114,8 @@ uint64_t card_link(uint64_t table[CARD_WORDS], size_t index, uint8_t state);
 enum { CARD_LINK_ERROR_ACTIVE, CARD_LINK_ERROR_PASSIVE, CARD_LINK_BUS_OFF };
 
 /* Who sends next, where all nodes share one CAN controller: the first node with a due frame after the one chosen last, wrapping
- * past 23, so that the one chosen last is looked at last. Gives its index, or CARD_NOBODY. It sends nothing: call card_send for
- * that node. Never refused.
+ * past 23, so that the one chosen last is looked at last. A due frame counts also where card_send would refuse it by 5. Gives the
+ * node's index, or CARD_NOBODY. It sends nothing: call card_send for that node. Never refused.
  * The table keeps a mark, the node chosen last, at first 23. It moves by every choice that names a node, whatever card_send then
  * answers, and by nothing else but card_new; card_power_on leaves it. So a node that has a due frame at each of 24 choices is named
  * by one of them, whatever the others queue or receive and whatever is called between these. */

@@ -113,7 +113,7 @@ static void new_table(void) {
 }
 
 /* A choice. Of the table it changes one word at most, always the same one, which holds the mark, and none where nobody is named. Of
- * the other buffers it writes that of its answer alone, with a number that this can be. */
+ * the other buffers it writes that of its answer alone, with an index or CARD_NOBODY. */
 static void choose_any(void) {
     static size_t mark = SIZE_MAX;
     fill(&one);
@@ -152,7 +152,7 @@ static void choose(uint64_t named) {
 }
 
 /* Looking changes no word of the table. A choice goes by what is seen. */
-static void look(size_t index) {
+static void look_and_choose(size_t index) {
     ACCEPTED(card_look(T, index, SEEN));
     check_same("card_look", &table);
     for (int i = CARD_SEEN_INBOX + 1; i < CARD_SEEN_WORDS; i++)
@@ -171,7 +171,7 @@ static void while_off(void) {
     REFUSED(CARD_REFUSED_OFF, card_link(T, 0, 255));
     REFUSED(CARD_REFUSED_INBOX_EMPTY, card_inbox(T, 0, 0, FRAME));
     ACCEPTED(card_foreign(T, 2, 0x7FF, 8, UINT64_MAX));
-    look(23);
+    look_and_choose(23);
     for (int i = 0; i < CARD_SEEN_WORDS; i++)
         EXPECT(SEEN[i], 0);
     choose(CARD_NOBODY);
@@ -205,7 +205,7 @@ static void malformed(void) {
 /* Looks. The Node ID that is seen is in use: at every other index a power-on with it is refused, be the node there on or Off. 1 and
  * 3 are tested before. */
 static void look_in_use(size_t index) {
-    look(index);
+    look_and_choose(index);
     const uint64_t id = SEEN[CARD_SEEN_ID];
     for (size_t other = 0; other < CARD_NODES; other++)
         if (other != index) {
@@ -234,7 +234,7 @@ static void bring_up(size_t index) {
     REFUSED(CARD_REFUSED_NOT_PERMITTED, card_message(T, index, 0, 0, 0));
     REFUSED(CARD_REFUSED_NOT_PERMITTED, card_enquiry(T, index, 0, 0));
     REFUSED(CARD_REFUSED_NOT_PERMITTED, card_release(T, index));
-    look(index);
+    look_and_choose(index);
     EXPECT(SEEN[CARD_SEEN_DUE], 0);
     for (int i = 0; i < 201; i++)
         ACCEPTED(card_tick(T));
@@ -257,7 +257,7 @@ static void orders(size_t index) {
     ACCEPTED(card_message(T, index, 0x7FFF, 8, UINT64_MAX));
     REFUSED(CARD_REFUSED_HOST_WAITING, card_message(T, index, 0, 0, 0));
     REFUSED(CARD_REFUSED_HOST_WAITING, card_enquiry(T, index, 0, 0));
-    look(index);
+    look_and_choose(index);
     EXPECT(SEEN[CARD_SEEN_DUE_LEN], 8);
     EXPECT(SEEN[CARD_SEEN_DUE_BYTES], UINT64_MAX);
     ACCEPTED(card_send(T, index, SENT));
@@ -269,7 +269,7 @@ static void orders(size_t index) {
 static void reports(size_t index, uint8_t from, uint8_t to, uint64_t header) {
     ACCEPTED(card_link(T, index, from));
     ACCEPTED(card_link(T, index, to));
-    look(index);
+    look_and_choose(index);
     EXPECT(SEEN[CARD_SEEN_DUE_HEADER], header);
     EXPECT(SEEN[CARD_SEEN_DUE_LEN], 6);
     EXPECT(SEEN[CARD_SEEN_DUE_BYTES], ID << 16);
@@ -294,7 +294,7 @@ static void duplicate(size_t index) {
     const uint64_t event = UINT64_C(0x0101000000000201);
     ACCEPTED(card_foreign(T, 0, UINT32_C(0x10701111), 6, ID << 16));
     ACCEPTED(card_deliver(T, index));
-    look(index);
+    look_and_choose(index);
     EXPECT(SEEN[CARD_SEEN_DUE_HEADER], 0x195B4263);
     EXPECT(SEEN[CARD_SEEN_DUE_LEN], 8);
     EXPECT(SEEN[CARD_SEEN_DUE_BYTES], event);
@@ -330,7 +330,7 @@ static void inboxes(size_t index) {
     ACCEPTED(card_deliver(T, index));
     ACCEPTED(card_inbox(T, index, 0, FRAME));
     EXPECT(FRAME[CARD_FRAME_HEADER], 1);
-    look(index);
+    look_and_choose(index);
     EXPECT(SEEN[CARD_SEEN_INBOX], CARD_INBOX - 1);
     while (card_deliver(T, index) == 0)
         check_guards("card_deliver");

@@ -47,14 +47,14 @@ pub struct Explain {
     paint: Paint,
     /// What has not been put yet: ticks in a row, and then a choice that names nobody.
     ticks: Option<Ticks>,
-    nobodys: Option<(Played, Choice)>,
+    unnamed: Option<(Played, Choice)>,
     late: Option<Late>,
     text: String,
 }
 
 impl Explain {
     pub fn new(paint: Paint) -> Explain {
-        Explain { paint, ticks: None, nobodys: None, late: None, text: String::new() }
+        Explain { paint, ticks: None, unnamed: None, late: None, text: String::new() }
     }
 
     pub fn note(&mut self, moment: &Moment) {
@@ -63,7 +63,7 @@ impl Explain {
             return self.tick(moment);
         }
         if let Some(choice) = moment.choice.filter(|choice| choice.named.is_none()) {
-            return self.nobodys(moment.played, choice);
+            return self.unnamed(moment.played, choice);
         }
         self.put_open();
         self.put(&play::line(&moment.played), &meaning(moment), Tone::of(moment));
@@ -91,7 +91,7 @@ impl Explain {
     }
 
     fn tick(&mut self, moment: &Moment) {
-        let choice = self.nobodys.take().map(|(_, choice)| choice);
+        let choice = self.unnamed.take().map(|(_, choice)| choice);
         if !self.ticks.as_mut().is_some_and(|ticks| ticks.join(moment, choice)) {
             self.put_ticks();
             self.ticks = Some(Ticks::new(moment, choice));
@@ -99,17 +99,17 @@ impl Explain {
     }
 
     /// A choice that names nobody: where a tick follows, it has its part in the line of that.
-    fn nobodys(&mut self, played: Played, choice: Choice) {
-        if self.nobodys.is_some() {
+    fn unnamed(&mut self, played: Played, choice: Choice) {
+        if self.unnamed.is_some() {
             self.put_open();
         }
-        self.nobodys = Some((played, choice));
+        self.unnamed = Some((played, choice));
     }
 
     /// Puts what has not been put yet, since more might have joined it.
     fn put_open(&mut self) {
         self.put_ticks();
-        if let Some((played, choice)) = self.nobodys.take() {
+        if let Some((played, choice)) = self.unnamed.take() {
             self.put(&play::line(&played), &choice.words(), Tone::Plain);
         }
     }

@@ -46,12 +46,12 @@ impl Choice {
 pub struct Turns {
     /// How many each node had, and how many choices named nobody.
     had: [usize; PLACES],
-    nobodys: usize,
+    unnamed: usize,
     /// Sends of these turns that were refused.
     refused: usize,
-    /// At how many choices, up to now, each node has had a due frame without a break, and has not been named; and the most choices
-    /// that one waited for its turn, its own among them.
+    /// For each node: at how many choices in a row, up to now, it had a due frame and was not named.
     waits: [usize; PLACES],
+    /// The most choices that one waited for its turn, that which named it among them.
     longest: usize,
 }
 
@@ -61,7 +61,7 @@ impl Turns {
         let Some(choice) = moment.choice else { return };
         match choice.named {
             Some(index) => self.had[index] += 1,
-            None => self.nobodys += 1,
+            None => self.unnamed += 1,
         }
         for (index, wait) in self.waits.iter_mut().enumerate() {
             *wait = if moment.before[index].due.is_some() { *wait + 1 } else { 0 };
@@ -73,7 +73,7 @@ impl Turns {
     }
 
     pub fn is_empty(&self) -> bool {
-        self.named() + self.nobodys == 0
+        self.named() + self.unnamed == 0
     }
 
     /// How many a node had.
@@ -87,14 +87,14 @@ impl Turns {
     }
 
     pub fn words(&self) -> String {
-        let (named, nobodys) = (self.named(), self.nobodys);
-        let choices = words::count(named + nobodys, "choice", "choices");
+        let (named, unnamed) = (self.named(), self.unnamed);
+        let choices = words::count(named + unnamed, "choice", "choices");
         if named == 0 {
             return format!("{choices} named nobody: no node had a due frame.");
         }
         let longest = words::count(self.longest, "choice", "choices");
         format!(
-            "{choices}: {named} named a node, {nobodys} nobody{}.\n\
+            "{choices}: {named} named a node, {unnamed} nobody{}.\n\
              A node with a due frame waited for {longest} at most, its own turn among them; \
              request A.8 allows {PLACES}.",
             self.refused_words()

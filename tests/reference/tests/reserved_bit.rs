@@ -60,7 +60,7 @@ fn only_an_eleven_bit_frame_has_no_twin_but_itself() {
     assert_eq!([0, 1, 2].map(|kind| twin(&twin(&frame(kind)))), [0, 1, 2].map(frame));
 }
 
-/// The stored scripts, and the lists with link orders: together they meet every row.
+/// The stored scripts, and the lists with link orders and choices: together they meet every row.
 static LISTS: LazyLock<Vec<Vec<Command>>> = LazyLock::new(|| {
     let scripts = corpus::scripts(corpus::SEED);
     let mut lists: Vec<_> = scripts.iter().map(|script| whole_commands(script).collect()).collect();

@@ -399,9 +399,12 @@ fn an_unfair_row_of_choices_is_found() {
     }
 }
 
-/// A millisecond by turns: all is delivered, the node sends that a choice names, a tick passes.
-fn tick_by_turns(draft: &mut Draft) {
-    draft.drain_all().choose();
+/// A millisecond by turns, under watch: all is delivered, the node sends that a choice names, a tick passes.
+fn tick_by_turns(draft: &mut Draft, turns: &mut Turns) {
+    draft.drain_all();
+    let due = std::array::from_fn(|place| draft.segment.node(place).due().is_some());
+    draft.choose();
+    turns.see(due, chosen(draft));
     if let Some(place) = chosen(draft) {
         draft.send(place as u8);
         assert_eq!(refusal(draft), 0);
@@ -416,29 +419,32 @@ fn a_breaker_start_by_turns_is_kept_and_has_single_aliases() {
     for index in 0..PLACES {
         draft.power_on(index, ID + 4095 * u64::from(index / 2) + u64::from(index));
     }
-    (0..800).for_each(|_| tick_by_turns(&mut draft));
+    let mut turns = Turns::default();
+    (0..800).for_each(|_| tick_by_turns(&mut draft, &mut turns));
+    assert!(turns.were_fair(), "{turns:?}");
     assert!((0..PLACES).all(|index| draft.state(index) == State::Permitted));
     assert!(!draft.segment.is_late());
     assert!(Watch::of(draft.list).claim_held());
 }
 
 /// One exhibit orders a message whenever it can, and foreign CIDs ask for aliases in use: the replies
-/// leave within 24 ticks, and the messages of the others too.
+/// leave within 24 ticks, and no node with a due frame waits for more than 24 choices.
 #[test]
 fn a_chatty_exhibit_delays_nobody_by_more_than_24_turns() {
     let mut rng = Prng::new(seed());
     let mut draft = all_permitted();
-    let start = draft.list.len();
+    let (start, mut turns) = (draft.list.len(), Turns::default());
     for _ in 0..2_000 {
         draft.message(7, 0x05B4, &[7]);
         let asked = rng.below(24) as u8;
         draft.foreign_cid(asked).message(rng.below(24) as u8, 0x05B4, &[1]);
-        tick_by_turns(&mut draft);
+        tick_by_turns(&mut draft, &mut turns);
     }
     let sends = draft.list[start..].iter().filter(|c| matches!(c, Command::Send { .. })).count();
     let watch = Watch::of(draft.list);
     assert_eq!(sends, 2_000, "the controller is never idle");
     assert!(watch.claim_held() && watch.greatest.waiting <= 24, "{watch:?}");
+    assert!(turns.were_fair(), "{turns:?}");
 }
 
 #[test]

@@ -1,7 +1,7 @@
 //! Choices (A.8), the proved one and the same in plain Rust, by how many nodes they look at and in which states these are; and turns, a
 //! choice and a send.
 
-use super::{as_for_c, Row};
+use super::{as_for_c, plain_power_on, Row};
 use crate::card::Card;
 use crate::operations::operation::Operation;
 use crate::operations::put_out;
@@ -63,11 +63,13 @@ fn choosing(name: &'static str, draft: Draft, looks: &[usize]) -> Row {
 }
 
 /// Turns of nodes 0 to 7, all others Off: a choice, and the send of the node that it names. Each in order is powered on and has four
-/// turns for its CIDs, and then waits, until that empties its inbox again; so no inbox comes to be full. A power-on is in every fourth.
+/// turns for its CIDs, and then waits until its next power-on, which empties its inbox; so no inbox comes to be full. A power-on is in
+/// every fourth.
 fn taking_turns(name: &'static str) -> Row {
     let (mut proved, mut plain) = (Card::new(), Segment::new());
     let choose: fn(&mut Segment, &mut [u64; 1]) -> u64 = black_box(plain_choose);
     let send: fn(&mut Segment, usize, &mut [u64; 3]) -> u64 = black_box(plain_send);
+    let power_on: fn(&mut Segment, usize, u64) -> u64 = black_box(plain_power_on);
     let operands = |turn: u64| (black_box(turn / 4 % 8) as u8, turn % 4);
     let (mut chosen, mut sent) = ([0; 1], [0; 3]);
     let (mut plain_chosen, mut plain_sent) = ([0; 1], [0; 3]);
@@ -81,7 +83,7 @@ fn taking_turns(name: &'static str) -> Row {
         }),
         plain: Box::new(move |turn| {
             let (index, sent_already) = operands(turn);
-            assert!(sent_already > 0 || plain.power_on(index.into(), id(index)).is_ok());
+            assert!(sent_already > 0 || power_on(&mut plain, index.into(), id(index)) == 0);
             assert_eq!((choose(&mut plain, &mut plain_chosen), plain_chosen), (0, [index.into()]));
             assert_eq!(send(&mut plain, index.into(), &mut plain_sent), 0);
         }),
@@ -131,9 +133,9 @@ pub fn rows() -> [Row; 8] {
         choosing("choice of the 24th, 23 Off", with_one_due(Draft::new()), &[24]),
         choosing("choice of the 24th, 23 wait", with_one_due(waiting(23)), &[24]),
         choosing("choice of 24th, 23 Permitted", with_messages(permitted(), &[23]), &[24]),
-        choosing("choice of 6th, 2nd Permitted", with_messages(permitted(), &[5, 7, 13, 15, 21, 23]), &[6, 2]),
+        choosing("choice of the 6th or the 2nd", with_messages(permitted(), &[5, 7, 13, 15, 21, 23]), &[6, 2]),
         choosing("choice, none of 24 that wait", waiting(24), &[24]),
         choosing("choice, none of 24 Permitted", permitted(), &[24]),
-        taking_turns("turn: choice, send of a CID"),
+        taking_turns("turn, each 4th with power-on"),
     ]
 }

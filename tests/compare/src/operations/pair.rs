@@ -51,12 +51,12 @@ impl Pair {
     /// Carries out an operation on both sides and compares all there is.
     pub fn step(&mut self, operation: &Operation, cover: &mut Coverage) -> Result<(), String> {
         self.operations += 1;
-        let due = (*operation == Operation::Choose).then(|| turn::due(&self.card));
+        let before = (*operation == Operation::Choose).then(|| (turn::due(&self.card), self.segment.mark()));
         let proved = operation.proved(&mut self.card);
         let plain = answered(operation.plain(&mut self.segment, cover), given_words);
-        if let Some(due) = due {
+        if let Some((due, mark)) = before {
             same(|| CHOICE.to_string(), said(proved), said(plain))?;
-            self.choice(due, turn::named_by(proved.1[0])).map_err(|what| format!("{operation} {what}"))?;
+            self.choice(due, mark, turn::named_by(proved.1[0])).map_err(|what| format!("{operation} {what}"))?;
         }
         same(|| format!("{operation} answers"), proved, plain)?;
         if proved.0 != 0 && self.card.words() != self.words {
@@ -86,9 +86,9 @@ impl Pair {
         Ok(())
     }
 
-    /// Checks a choice by which nodes were due before it: what it changed, and that every node has its turn.
-    fn choice(&mut self, due: [bool; Segment::PLACES], named: Option<usize>) -> Result<(), String> {
-        turn::may_change(&self.words, self.card.words(), named)?;
+    /// Checks a choice by which nodes were due before it, and by the mark then: what it changed, and that every node has its turn.
+    fn choice(&mut self, due: [bool; Segment::PLACES], mark: usize, named: Option<usize>) -> Result<(), String> {
+        turn::may_change(&self.words, self.card.words(), mark, named)?;
         self.turns.see(due, named);
         if !self.turns.were_fair() {
             return Err("is the last of 24 at each of which some node was due that none of them named".to_string());
@@ -250,11 +250,11 @@ mod tests {
         let due = std::array::from_fn(|index| index == 3 || index == 9);
         for named in [Some(3), None] {
             let mut pair = on();
-            (0..23).for_each(|_| assert_eq!(pair.choice(due, named), Ok(())));
-            assert!(pair.choice(due, named).is_err());
+            (0..23).for_each(|_| assert_eq!(pair.choice(due, 23, named), Ok(())));
+            assert!(pair.choice(due, 23, named).is_err());
             let mut pair = on();
-            (0..23).for_each(|_| assert_eq!(pair.choice(due, named), Ok(())));
-            assert_eq!(pair.choice(due, Some(9)).is_ok(), named.is_some());
+            (0..23).for_each(|_| assert_eq!(pair.choice(due, 23, named), Ok(())));
+            assert_eq!(pair.choice(due, 23, Some(9)).is_ok(), named.is_some());
         }
     }
 
@@ -262,7 +262,7 @@ mod tests {
     fn what_a_choice_changes_besides_the_mark_is_found() {
         let mut pair = on();
         pair.card.words_mut()[..2].iter_mut().for_each(|word| *word += 1);
-        assert!(pair.choice([false; Segment::PLACES], Some(3)).is_err());
+        assert!(pair.choice([false; Segment::PLACES], 23, Some(3)).is_err());
     }
 
     #[test]

@@ -46,12 +46,15 @@ pub fn due(card: &Card) -> [bool; Segment::PLACES] {
     std::array::from_fn(|index| seen::due(&seen::shown(card, index)).is_some())
 }
 
-/// Whether a choice that named this node, or nobody, may have made the second words of the first: the mark is in one of them.
-pub fn may_change(words: &[u64], after: &[u64], named: Option<usize>) -> Result<(), String> {
+/// Whether a choice with this mark that named this node, or nobody, may have made the second words of the first: the mark is in one
+/// of them, and moves where another node is named.
+pub fn may_change(words: &[u64], after: &[u64], mark: usize, named: Option<usize>) -> Result<(), String> {
     let changed = words.iter().zip(after).filter(|(word, after)| word != after).count();
     match named {
         None if changed > 0 => Err("names nobody and changes the table".to_string()),
-        Some(index) if changed > 1 => Err(format!("names {index} and changes {changed} words of the table, more than the mark")),
+        Some(index) if changed > usize::from(index != mark) => {
+            Err(format!("names {index} after {mark} and changes {changed} words of the table, more than the mark"))
+        }
         _ => Ok(()),
     }
 }
@@ -103,10 +106,15 @@ mod tests {
         let changed = |count: usize, named| {
             let mut after = words.clone();
             after.iter_mut().rev().take(count).for_each(|word| *word += 1);
-            may_change(&words, &after, named)
+            may_change(&words, &after, 5, named)
         };
-        assert_eq!([changed(0, Some(3)), changed(1, Some(3)), changed(0, None)], [Ok(()), Ok(()), Ok(())]);
-        assert_eq!(changed(2, Some(3)).unwrap_err(), "names 3 and changes 2 words of the table, more than the mark");
+        for (count, named) in [(0, Some(3)), (1, Some(3)), (0, Some(5)), (0, None)] {
+            assert_eq!(changed(count, named), Ok(()));
+        }
+        for (count, named) in [(2, 3), (1, 5)] {
+            let what = format!("names {named} after 5 and changes {count} words of the table, more than the mark");
+            assert_eq!(changed(count, Some(named)), Err(what));
+        }
         assert_eq!(changed(1, None).unwrap_err(), "names nobody and changes the table");
     }
 }

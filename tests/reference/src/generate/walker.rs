@@ -410,7 +410,9 @@ impl<'a> Walker<'a> {
         let segment = &self.draft.segment;
         let due = std::array::from_fn(|place| segment.node(place).due().is_some());
         self.push(Command::Choose);
-        let Ok(Given::Chosen(named)) = self.draft.answer else { return None };
+        let Ok(Given::Chosen(named)) = self.draft.answer else {
+            unreachable!("a choice is never refused")
+        };
         self.turns.see(due, named);
         named.map(|place| place as u8)
     }
