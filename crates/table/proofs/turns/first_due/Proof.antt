@@ -27,7 +27,7 @@ first-due-spec =
           let next = d .after .ensures in
           let is = d .before .mark .ensures in
           found-round _ _ (next .1 (omega (arith, is, h .mark)) ∙ ap after is) _ (c .before .before .before .first-between .ensures (omega (arith, next .0)))
-          _ (c .before .before .if1 .left) (c .before .first-between2 .ensures (omega arith)) (c .if2 .taken),
+          _ (c .before .before .if1 .left) (c .before .first-between2 .ensures (omega arith)) (omega (arith, c .if2 .taken)),
     ))
     (λ c. (
       tt,
@@ -36,5 +36,5 @@ first-due-spec =
           let next = d .after .ensures in
           let is = d .before .mark .ensures in
           found-none _ _ (next .1 (omega (arith, is, h .mark)) ∙ ap after is) _ (c .before .before .before .first-between .ensures (omega (arith, next .0)))
-          _ (c .before .before .if1 .left) (c .before .first-between2 .ensures (omega arith)) (c .if2 .left),
+          _ (c .before .before .if1 .left) (c .before .first-between2 .ensures (omega arith)) (omega (arith, c .if2 .left)),
     )))
