@@ -2,7 +2,7 @@
  *
  * What an operation promises: it takes any operands and always returns; it answers 0 where it was accepted, else the number of a
  * refusal (card_new, map_new: nothing; card_is_late: 0 or 1); and a refusal leaves table, map and every buffer as they
- * were. card_look, card_inbox and all with a const table or map change no word of it.
+ * were. card_look, card_inbox, card_read_out and all with a const table or map change no word of it.
  *
  * What the caller owes, since nothing here can test it:
  *  - Every pointer is valid for as many words as its parameter says, aligned as uint64_t is, and no two of a call overlap. That of a
@@ -25,8 +25,8 @@
 extern "C" {
 #endif
 
-/* The words of a table. How they are laid out is no caller's business: card_look and card_inbox show what they hold, and
- * card_choose goes by the mark, which nothing else shows. */
+/* The words of a table. How they are laid out is no caller's business: card_look, card_inbox and card_read_out show what they hold,
+ * and card_choose goes by the mark, which nothing else shows. */
 #define CARD_WORDS 1928
 
 /* The words of a map of foreign aliases. */
@@ -60,7 +60,8 @@ enum {
     CARD_REFUSED_BAD_LINK_STATE = 14,  /* the link state is above 2 */
     CARD_REFUSED_NODE_ID_IN_USE = 15,  /* the Node ID is in use at another index */
     CARD_REFUSED_NOT_GRIDCONNECT = 16, /* the text is no GridConnect frame, or its header has more than 29 bits */
-    CARD_REFUSED_SHORT_BUFFER = 17     /* the text is longer than the room for it */
+    CARD_REFUSED_SHORT_BUFFER = 17,    /* the text is longer than the room for it */
+    CARD_REFUSED_BAD_START = 18        /* the flag is above 1, or it is 1 and the state has more than 48 bits */
 };
 
 /* COMMANDS, as documents 01 and 02 have them. The refusals of each are tested in the order given. */
@@ -79,6 +80,14 @@ uint64_t card_is_late(const uint64_t table[CARD_WORDS]);
  * state but Off, has this Node ID: card_look finds it. The node at this index then runs on as it was, with its inbox, or stays Off.
  * The Node ID that it had itself does not count. */
 uint64_t card_power_on(uint64_t table[CARD_WORDS], size_t index, uint64_t id);
+
+/* As card_power_on, with what card_read_out gave before the power was off: its past as the flag, and its state. 1, 3, 15, 18.
+ * Flag 1: the node starts with the alias that is drawn from the state, the exclusive-or of its four parts of 12 bits, or 1 where
+ * that is 0. It is the one that the node had. Flag 0: the node starts as by card_power_on, with the first alias of its Node ID, and
+ * the state is ignored, whatever it is. Either alias is tested in full, by four CIDs, wait and RID; where another has it by then,
+ * the node takes the next of its generator. A flag above 1 is refused by 18, tested last, and so is a state above 48 bits with
+ * flag 1. */
+uint64_t card_warm_on(uint64_t table[CARD_WORDS], size_t index, uint64_t id, uint8_t flag, uint64_t state);
 
 /* The node's due frame leaves: put it on the bus. It joins the inboxes of the other nodes by itself. 1, 2, 4, 5. */
 uint64_t card_send(uint64_t table[CARD_WORDS], size_t index, uint64_t sent[3]);
@@ -117,9 +126,21 @@ enum { CARD_LINK_ERROR_ACTIVE, CARD_LINK_ERROR_PASSIVE, CARD_LINK_BUS_OFF };
  * past 23, so that the one chosen last is looked at last. A due frame counts also where card_send would refuse it by 5. Gives the
  * node's index, or CARD_NOBODY. It sends nothing: call card_send for that node. Never refused.
  * The table keeps a mark, the node chosen last, at first 23. It moves by every choice that names a node, whatever card_send then
- * answers, and by nothing else but card_new; card_power_on leaves it. So a node that has a due frame at each of 24 choices is named
- * by one of them, whatever the others queue or receive and whatever is called between these. */
+ * answers, and by nothing else but card_new; card_power_on and card_warm_on leave it. So a node that has a due frame at each of 24
+ * choices is named by one of them, whatever the others queue or receive and whatever is called between these. */
 uint64_t card_choose(uint64_t table[CARD_WORDS], uint64_t chosen[1]);
+
+/* Gives what card_warm_on takes, to be kept with the Node ID while the power is off: the state of the node's generator, and whether
+ * its first alias is past. It is past once the generator has stepped since power-on, as at every restart, or where the power-on was
+ * by card_warm_on with flag 1. 1, 2. */
+uint64_t card_read_out(const uint64_t table[CARD_WORDS], size_t index, uint64_t out[2]);
+
+/* The places of `out`. */
+enum {
+    CARD_OUT_STATE, /* the generator's state, of 48 bits */
+    CARD_OUT_PAST,  /* 1 where the first alias is past, else 0 */
+    CARD_OUT_WORDS
+};
 
 /* LOOKING */
 

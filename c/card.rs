@@ -5,6 +5,7 @@ extern "C" {
     fn card_new(table: *mut u64);
     fn card_is_late(table: *const u64) -> u64;
     fn card_power_on(table: *mut u64, index: usize, id: u64) -> u64;
+    fn card_warm_on(table: *mut u64, index: usize, id: u64, flag: u8, state: u64) -> u64;
     fn card_send(table: *mut u64, index: usize, sent: *mut u64) -> u64;
     fn card_fail(table: *mut u64, index: usize) -> u64;
     fn card_deliver(table: *mut u64, index: usize) -> u64;
@@ -15,6 +16,7 @@ extern "C" {
     fn card_release(table: *mut u64, index: usize) -> u64;
     fn card_link(table: *mut u64, index: usize, state: u8) -> u64;
     fn card_choose(table: *mut u64, chosen: *mut u64) -> u64;
+    fn card_read_out(table: *const u64, index: usize, out: *mut u64) -> u64;
     fn card_look(table: *const u64, index: usize, seen: *mut u64) -> u64;
     fn card_inbox(table: *const u64, index: usize, place: usize, frame: *mut u64) -> u64;
     fn map_new(map: *mut u64);

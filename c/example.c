@@ -1,5 +1,6 @@
 /* 24 exhibits on one breaker, as firmware would run them on a bus with other equipment: when each is up, and under which alias.
- * Beside it a map of what is seen on the bus, as a viewer keeps one, frames as text, as a viewer exchanges them, and turns. */
+ * Beside it a map of what is seen on the bus, as a viewer keeps one, frames as text, as a viewer exchanges them, and turns. At last
+ * the breaker falls, and the exhibits come back under the aliases that they had. */
 #include "card.h"
 #include <inttypes.h>
 #include <stdio.h>
@@ -246,6 +247,53 @@ static void share(unsigned turns) {
     printf("\n");
 }
 
+/* What is kept of an exhibit while the power is off, in memory that keeps it: all that it needs to come back. */
+struct kept {
+    uint64_t id, out[CARD_OUT_WORDS];
+    int is_on;
+};
+
+/* Before the breaker falls: each exhibit that is on is read out. */
+static void read_out(struct kept kept[CARD_NODES]) {
+    unsigned on = 0, past = 0;
+    for (size_t i = 0; i < CARD_NODES; i++) {
+        kept[i].id = seen(i, CARD_SEEN_ID);
+        kept[i].is_on = card_read_out(table, i, kept[i].out) == 0;
+        on += kept[i].is_on;
+        past += kept[i].is_on && kept[i].out[CARD_OUT_PAST];
+    }
+    printf("%6u ms  %u exhibits are read out, of %u the first alias is past; the breaker falls\n", now, on, past);
+}
+
+/* An exhibit is given back what was read out of it. Where it does not start with its first alias, that is said. */
+static void give_back(size_t exhibit, const struct kept *kept, uint64_t had) {
+    uint64_t first[1];
+    card_warm_on(table, exhibit, kept->id, (uint8_t)kept->out[CARD_OUT_PAST], kept->out[CARD_OUT_STATE]);
+    lcc_first_alias(kept->id, first);
+    if (seen(exhibit, CARD_SEEN_ALIAS) != first[0])
+        printf("%6u ms  exhibit %zu had %03" PRIX64 ", its first alias was %03" PRIX64 ": it tests %03" PRIX64 "\n", now, exhibit,
+               had, first[0], seen(exhibit, CARD_SEEN_ALIAS));
+}
+
+/* The breaker falls, and is switched on again. Exhibits 5 and 11 were in test; 7, which rested, and 9, silent, had no alias. */
+static void come_back(void) {
+    struct kept kept[CARD_NODES];
+    uint64_t had[CARD_NODES];
+    unsigned same = 0;
+    for (size_t i = 0; i < CARD_NODES; i++)
+        had[i] = seen(i, CARD_SEEN_ALIAS);
+    read_out(kept);
+    card_new(table);
+    for (size_t i = 0; i < CARD_NODES; i++)
+        if (kept[i].is_on)
+            give_back(i, &kept[i], had[i]);
+    run(210);
+    for (size_t i = 0; i < CARD_NODES; i++)
+        same += seen(i, CARD_SEEN_STATE) == CARD_STATE_PERMITTED && seen(i, CARD_SEEN_ALIAS) == had[i];
+    printf("%6u ms  %u exhibits are up again under the alias that they had\n", now, same);
+    printf("a flag of 2 is refused by %" PRIu64 "\n", card_warm_on(table, 0, node_id(0), 2, kept[0].out[CARD_OUT_STATE]));
+}
+
 int main(void) {
     switch_on();
     show_table();
@@ -255,5 +303,6 @@ int main(void) {
     share(7);
     ask(0x265);
     ask(0x267);
+    come_back();
     return 0;
 }

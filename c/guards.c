@@ -22,8 +22,8 @@ static struct guarded table = {.words = CARD_WORDS}, sent = {.words = CARD_SENT_
                       frame = {.words = CARD_FRAME_WORDS}, map = {.words = MAP_WORDS},
                       found = {.words = MAP_FOUND_WORDS}, one = {.words = 1}, parts = {.words = LCC_PARTS_WORDS},
                       next = {.words = LCC_NEXT_WORDS}, text = {.words = TEXT_WORDS},
-                      grid = {.words = GRID_FRAME_WORDS};
-static struct guarded *const BUFFERS[] = {&table, &sent, &seen, &frame, &map, &found, &one, &parts, &next, &text, &grid};
+                      grid = {.words = GRID_FRAME_WORDS}, out = {.words = CARD_OUT_WORDS};
+static struct guarded *const BUFFERS[] = {&table, &sent, &seen, &frame, &map, &found, &one, &parts, &next, &text, &grid, &out};
 static unsigned accepted, refused;
 
 #define EACH(b) for (struct guarded *const *b = BUFFERS; b < BUFFERS + sizeof BUFFERS / sizeof *BUFFERS; b++)
@@ -102,6 +102,7 @@ static const size_t FAR = SIZE_MAX;
 #define NEXT words(&next)
 #define TEXT ((uint8_t *)words(&text))
 #define GRID words(&grid)
+#define OUT words(&out)
 
 /* The node chosen last. */
 static uint64_t last;
@@ -170,6 +171,8 @@ static void while_off(void) {
     REFUSED(CARD_REFUSED_OFF, card_release(T, 0));
     REFUSED(CARD_REFUSED_OFF, card_link(T, 0, 255));
     REFUSED(CARD_REFUSED_INBOX_EMPTY, card_inbox(T, 0, 0, FRAME));
+    for (size_t i = 0; i < CARD_NODES; i++)
+        REFUSED(CARD_REFUSED_OFF, card_read_out(T, i, OUT));
     ACCEPTED(card_foreign(T, 2, 0x7FF, 8, UINT64_MAX));
     look_and_choose(23);
     for (int i = 0; i < CARD_SEEN_WORDS; i++)
@@ -179,6 +182,8 @@ static void while_off(void) {
 
 static void beyond_the_last(size_t index) {
     REFUSED(CARD_REFUSED_BAD_INDEX, card_power_on(T, index, 0));
+    REFUSED(CARD_REFUSED_BAD_INDEX, card_warm_on(T, index, 0, 255, UINT64_MAX));
+    REFUSED(CARD_REFUSED_BAD_INDEX, card_read_out(T, index, OUT));
     REFUSED(CARD_REFUSED_BAD_INDEX, card_send(T, index, SENT));
     REFUSED(CARD_REFUSED_BAD_INDEX, card_fail(T, index));
     REFUSED(CARD_REFUSED_BAD_INDEX, card_deliver(T, index));
@@ -488,6 +493,278 @@ static void choices(void) {
     choices_on_any_words();
 }
 
+/* A node of a table, its Node ID ID, and what it had: the state of its generator, whether its first alias is past, its alias. */
+struct node {
+    size_t index;
+    uint64_t state, past, alias;
+};
+
+/* Reads a node out: it is what the node had. No word but the two that are given has changed. */
+static void read_out(const struct node *node) {
+    fill(&out);
+    ACCEPTED(card_read_out(T, node->index, OUT));
+    EACH(b)
+        if (*b != &out)
+            check_same("card_read_out", *b);
+    EXPECT(OUT[CARD_OUT_STATE], node->state);
+    EXPECT(OUT[CARD_OUT_PAST], node->past);
+}
+
+/* So many ticks. */
+static void ticks(unsigned count) {
+    for (unsigned i = 0; i < count; i++)
+        card_tick(T);
+    check_guards("card_tick");
+}
+
+/* What leaves next has this header. */
+static void sends(const struct node *node, uint64_t field) {
+    ACCEPTED(card_send(T, node->index, SENT));
+    EXPECT(SENT[CARD_SENT_HEADER], UINT64_C(1) << 28 | field << 12 | node->alias);
+    read_out(node);
+}
+
+/* A node that has just started tests its alias in full: four CIDs, nothing for 200 ticks, and RID and AMD after 201. Ends as soon
+ * as it is in this state. */
+static void tests_its_alias(const struct node *node, uint64_t until) {
+    look_and_choose(node->index);
+    EXPECT(SEEN[CARD_SEEN_STATE], CARD_STATE_TESTING);
+    EXPECT(SEEN[CARD_SEEN_ID], ID);
+    EXPECT(SEEN[CARD_SEEN_ALIAS], node->alias);
+    EXPECT(SEEN[CARD_SEEN_INBOX], 0);
+    read_out(node);
+    if (until == CARD_STATE_TESTING)
+        return;
+    for (unsigned cid = 7; cid >= 4; cid--)
+        sends(node, cid << 12 | (ID >> (12 * (cid - 4)) & 0xFFF));
+    REFUSED(CARD_REFUSED_NOTHING_DUE, card_send(T, node->index, SENT));
+    ticks(200);
+    REFUSED(CARD_REFUSED_NOTHING_DUE, card_send(T, node->index, SENT));
+    ticks(1);
+    sends(node, 0x0700);
+    if (until == CARD_STATE_RESERVED)
+        return;
+    sends(node, 0x0701);
+    look_and_choose(node->index);
+    EXPECT(SEEN[CARD_SEEN_STATE], CARD_STATE_PERMITTED);
+    EXPECT(SEEN[CARD_SEEN_ALIAS], node->alias);
+}
+
+/* From Permitted on, to one of the three states behind it. */
+static void ends_in(const struct node *node, uint64_t state) {
+    if (state == CARD_STATE_SILENT) {
+        ACCEPTED(card_foreign(T, 0, UINT32_C(0x10701000), 6, ID << 16));
+        ACCEPTED(card_deliver(T, node->index));
+        sends(node, UINT64_C(1) << 15 | 0x15B4);
+    } else if (state != CARD_STATE_PERMITTED) {
+        ACCEPTED(card_release(T, node->index));
+        read_out(node);
+        if (state == CARD_STATE_RESTING)
+            sends(node, 0x0703);
+    }
+}
+
+/* What a node at this index has after so many steps of its generator, by the library's own first and next alias. */
+static struct node after_steps(size_t index, unsigned steps) {
+    struct node node = {.index = index, .state = ID, .past = steps > 0};
+    ACCEPTED(lcc_first_alias(ID, ONE));
+    node.alias = ONE[0];
+    for (unsigned i = 0; i < steps; i++) {
+        ACCEPTED(lcc_next_alias(node.state, NEXT));
+        node.state = NEXT[LCC_NEXT_STATE];
+        node.alias = NEXT[LCC_NEXT_ALIAS];
+    }
+    return node;
+}
+
+/* A new table in which a node is in this state, after so many steps of its generator; each by a failed send. */
+static struct node node_in(size_t index, uint64_t state, unsigned steps) {
+    new_table();
+    const struct node node = after_steps(index, steps);
+    if (state == CARD_STATE_OFF)
+        return node;
+    ACCEPTED(card_power_on(T, index, ID));
+    for (unsigned i = 0; i < steps; i++)
+        ACCEPTED(card_fail(T, index));
+    tests_its_alias(&node, state);
+    if (state > CARD_STATE_RESERVED)
+        ends_in(&node, state);
+    look_and_choose(index);
+    EXPECT(SEEN[CARD_SEEN_STATE], state);
+    return node;
+}
+
+/* The refusals of a warm power-on in their order, at a node in any state: what would be refused by a later one is wrong too. */
+static void starts_refused(size_t index, uint64_t in_use) {
+    REFUSED(CARD_REFUSED_BAD_INDEX, card_warm_on(T, CARD_NODES, 0, 2, UINT64_MAX));
+    REFUSED(CARD_REFUSED_BAD_INDEX, card_warm_on(T, FAR, in_use, 1, UINT64_MAX));
+    REFUSED(CARD_REFUSED_BAD_NODE_ID, card_warm_on(T, index, 0, 2, UINT64_MAX));
+    REFUSED(CARD_REFUSED_BAD_NODE_ID, card_warm_on(T, index, in_use + (UINT64_C(1) << 48), 1, UINT64_MAX));
+    REFUSED(CARD_REFUSED_NODE_ID_IN_USE, card_warm_on(T, index, in_use, 0, UINT64_MAX));
+    REFUSED(CARD_REFUSED_NODE_ID_IN_USE, card_warm_on(T, index, in_use, 1, UINT64_MAX));
+    REFUSED(CARD_REFUSED_NODE_ID_IN_USE, card_warm_on(T, index, in_use, 1, ID));
+    REFUSED(CARD_REFUSED_NODE_ID_IN_USE, card_warm_on(T, index, in_use, 255, ID));
+    for (unsigned flag = 2; flag < 256; flag++)
+        REFUSED(CARD_REFUSED_BAD_START, card_warm_on(T, index, ID, (uint8_t)flag, flag % 2 ? ID : UINT64_MAX));
+    for (unsigned bit = 48; bit < 64; bit++)
+        REFUSED(CARD_REFUSED_BAD_START, card_warm_on(T, index, ID, 1, UINT64_C(1) << bit | ID));
+}
+
+/* Flag 0, with a state that is any number, leaves the words that card_power_on leaves, and so every table. */
+static void starts_cold(const struct node *node) {
+    const uint64_t states[] = {0, ID, (UINT64_C(1) << 48) - 1, UINT64_C(1) << 48, UINT64_MAX, chance()};
+    uint64_t before[CARD_WORDS], cold[CARD_WORDS];
+    memcpy(before, T, sizeof before);
+    memcpy(cold, T, sizeof cold);
+    EXPECT(card_power_on(cold, node->index, ID), 0);
+    for (size_t i = 0; i < sizeof states / sizeof *states; i++) {
+        memcpy(T, before, sizeof before);
+        ACCEPTED(card_warm_on(T, node->index, ID, 0, states[i]));
+        if (memcmp(T, cold, sizeof cold) != 0)
+            fail("card_warm_on", "with flag 0 it leaves other words than card_power_on, with a state", states[i]);
+    }
+    const struct node anew = after_steps(node->index, 0);
+    tests_its_alias(&anew, CARD_STATE_TESTING);
+}
+
+/* What was read out of a node is given back at every other index of a new table: there it comes up under the alias that it had. */
+static void comes_back(const struct node *node) {
+    for (size_t other = 0; other < CARD_NODES; other++)
+        if (other != node->index) {
+            struct node back = *node;
+            back.index = other;
+            new_table();
+            ACCEPTED(card_warm_on(T, other, ID, (uint8_t)back.past, back.state));
+            tests_its_alias(&back, CARD_STATE_PERMITTED);
+        }
+}
+
+/* Every state, before and after steps of the generator: what is read out, what is refused, flag 0, and what comes back. */
+static void starts_from_every_state(void) {
+    for (uint64_t state = CARD_STATE_OFF; state <= CARD_STATE_SILENT; state++)
+        for (unsigned steps = 0; steps < 3; steps++) {
+            const size_t index = (state * 3 + steps) % CARD_NODES;
+            const struct node node = node_in(index, state, steps);
+            ACCEPTED(card_power_on(T, (index + 5) % CARD_NODES, ID + 1));
+            starts_refused(index, ID + 1);
+            if (state == CARD_STATE_OFF)
+                REFUSED(CARD_REFUSED_OFF, card_read_out(T, index, OUT));
+            else
+                read_out(&node);
+            starts_cold(&node);
+            if (state != CARD_STATE_OFF)
+                comes_back(&node);
+        }
+}
+
+/* The alias that is drawn from a state, by request A.9. */
+static uint64_t drawn(uint64_t state) {
+    uint64_t alias = 0;
+    for (int part = 0; part < 4; part++)
+        alias ^= state >> (12 * part) & 0xFFF;
+    return alias == 0 ? 1 : alias;
+}
+
+/* A warm start with this state. The next alias is the one that the generator draws from there. */
+static void starts_warm(size_t index, uint64_t state) {
+    const struct node node = {index, state, 1, drawn(state)};
+    ACCEPTED(card_warm_on(T, index, ID, 1, state));
+    tests_its_alias(&node, CARD_STATE_TESTING);
+    ACCEPTED(lcc_next_alias(state, NEXT));
+    const struct node stepped = {index, NEXT[LCC_NEXT_STATE], 1, NEXT[LCC_NEXT_ALIAS]};
+    ACCEPTED(card_fail(T, index));
+    tests_its_alias(&stepped, CARD_STATE_TESTING);
+}
+
+/* States with every bit alone, by chance, and such whose parts are 0 together: alias 1. */
+static void starts_with_any_state(void) {
+    const uint64_t zero[] = {0, UINT64_C(0x001001000000), UINT64_C(0xFFF000000FFF), UINT64_C(0xFFFFFFFFFFFF),
+                             UINT64_C(0x123456444131)};
+    new_table();
+    for (size_t i = 0; i < sizeof zero / sizeof *zero; i++) {
+        EXPECT(drawn(zero[i]), 1);
+        starts_warm(i, zero[i]);
+        ACCEPTED(card_power_on(T, i, ID + 1 + i));
+    }
+    for (int bit = 0; bit < 48; bit++)
+        starts_warm(9, UINT64_C(1) << bit);
+    for (int i = 0; i < 1000; i++)
+        starts_warm(9, chance() >> 16);
+    starts_warm(9, ID);
+}
+
+/* A cold start after a warm one, whose state was the Node ID: the first alias is past no longer. */
+static void starts_cold_again(void) {
+    const struct node warm = {9, ID, 1, drawn(ID)}, cold = after_steps(9, 0);
+    new_table();
+    for (int flag_0 = 0; flag_0 < 2; flag_0++) {
+        ACCEPTED(card_warm_on(T, 9, ID, 1, ID));
+        tests_its_alias(&warm, CARD_STATE_TESTING);
+        if (flag_0)
+            ACCEPTED(card_warm_on(T, 9, ID, 0, ID));
+        else
+            ACCEPTED(card_power_on(T, 9, ID));
+        tests_its_alias(&cold, CARD_STATE_TESTING);
+    }
+}
+
+/* A node that is up, with a link that has degraded, a frame in its inbox and one due, starts warm: the inbox is empty and the link
+ * Error Active, so that the same change is reported again; the mark stays. In its test a frame with its alias makes it start
+ * again. */
+static void starts_anew(void) {
+    struct node node = node_in(7, CARD_STATE_PERMITTED, 1);
+    ACCEPTED(card_power_on(T, 3, ID + 3));
+    choose(3);
+    ACCEPTED(card_link(T, 7, CARD_LINK_ERROR_PASSIVE));
+    ACCEPTED(card_foreign(T, 0, UINT32_C(0x10702111), 0, 0));
+    ACCEPTED(card_warm_on(T, 7, ID, 1, node.state));
+    choose(7);
+    tests_its_alias(&node, CARD_STATE_TESTING);
+    wait_with_nothing_due(3);
+    while (card_deliver(T, 7) == 0)
+        check_guards("card_deliver");
+    tests_its_alias(&node, CARD_STATE_PERMITTED);
+    ACCEPTED(card_link(T, 7, CARD_LINK_ERROR_PASSIVE));
+    sends(&node, 0x0710);
+    ACCEPTED(card_warm_on(T, 7, ID, 1, node.state));
+    ACCEPTED(card_foreign(T, 0, (uint32_t)(UINT32_C(0x17050000) | node.alias), 0, 0));
+    ACCEPTED(card_deliver(T, 7));
+    node = after_steps(7, 2);
+    tests_its_alias(&node, CARD_STATE_PERMITTED);
+}
+
+/* Words that no operation left: what is owed is that both return, with an answer that they have, and write where they may. */
+static void starts_on_any_words(void) {
+    for (int i = 0; i < 2000; i++) {
+        for (size_t j = 0; j < CARD_WORDS; j++) {
+            const uint64_t bits = chance() % 64;
+            T[j] = i < 64 ? UINT64_MAX >> i : chance() >> bits;
+        }
+        const size_t index = chance() % CARD_NODES;
+        keep();
+        uint64_t answer = card_read_out(T, index, OUT);
+        check_guards("card_read_out");
+        check_same("card_read_out", &table);
+        if (answer != 0 && answer != CARD_REFUSED_OFF)
+            fail("card_read_out", "answers what it has not", answer);
+        keep();
+        answer = card_warm_on(T, index, ID + index, (uint8_t)(chance() % 3), chance() >> 15);
+        check_guards("card_warm_on");
+        if (answer != 0 && answer != CARD_REFUSED_NODE_ID_IN_USE && answer != CARD_REFUSED_BAD_START)
+            fail("card_warm_on", "answers what it has not", answer);
+        if (answer != 0)
+            check_same("card_warm_on", &table);
+    }
+}
+
+static void starts(void) {
+    starts_from_every_state();
+    starts_with_any_state();
+    starts_cold_again();
+    starts_anew();
+    starts_on_any_words();
+}
+
 /* An alias with a Node ID, as an AMD defines them. */
 #define AMD(alias, id) M, 0, UINT32_C(0x10701000) + (alias), 6, (id) << 16
 
@@ -713,13 +990,14 @@ int main(void) {
     ends(CARD_NODES - 1);
     moves(CARD_NODES - 1, 0);
     choices();
+    starts();
     maps();
     headers();
     texts_written();
     texts_read();
     texts_refused();
     printf("guards: %u calls accepted and %u refused: no word beside a buffer is written, none at all by a refusal, "
-           "and of the table by a choice the mark alone\n",
+           "and of the table by a choice the mark alone and by a read-out none\n",
            accepted, refused);
     return 0;
 }

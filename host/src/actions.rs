@@ -15,7 +15,7 @@ use crate::script::{self, Fault, Line};
 use crate::summary::Summary;
 use crate::usage::{Options, Wish, HELP};
 use crate::watch::{Moment, Watch};
-use crate::{listing, spell};
+use crate::{listing, save, spell};
 
 /// What went wrong: bad usage or a bad script; or an output that could not be written.
 #[derive(Debug)]
@@ -42,6 +42,9 @@ pub fn fulfil(wish: &Wish) -> Result<Vec<u8>, Trouble> {
             Ok(script.bytes)
         }
         Wish::Run(file, options) => {
+            if let Some(name) = &options.save {
+                save::may_write(name).map_err(Trouble::Script)?;
+            }
             let script = script_of(file)?;
             note_the_limit(&script);
             run(&script, file, options).map(String::into_bytes)
@@ -135,10 +138,17 @@ fn run(script: &Expanded, file: &Path, options: &Options) -> Result<String, Trou
     }
     if let Some(picture) = &options.picture {
         let name = name_of(Path::new(file.file_name().unwrap_or_default()));
-        fs::write(picture, picture::draw(&record, &name, last))
-            .map_err(|why| Trouble::Output(format!("cannot write {}: {why}", picture.display())))?;
+        write(picture, &picture::draw(&record, &name, last))?;
+    }
+    if let Some(name) = &options.save {
+        write(name, &save::script(&card))?;
     }
     Ok(text)
+}
+
+fn write(file: &Path, text: &str) -> Result<(), Trouble> {
+    fs::write(file, text)
+        .map_err(|why| Trouble::Output(format!("cannot write {}: {why}", file.display())))
 }
 
 /// The line of a command; with --grid the frame that left by it, if one did.

@@ -14,9 +14,10 @@ pub const NOBODY: u64 = 24;
 /// The bytes of the longest GridConnect text, as c/card.h has them.
 pub const TEXT_MAX: usize = 28;
 
-/// The words that `card_send` and `grid_read`, `card_choose`, `card_look`, `card_inbox` and `lcc_read_header` write.
+/// The words that `card_send` and `grid_read`, `card_choose`, `card_read_out`, `card_look`, `card_inbox` and `lcc_read_header` write.
 type Sent = [u64; 3];
 type Chosen = [u64; 1];
+type Out = [u64; 2];
 type Look = [u64; 12];
 type Held = [u64; 4];
 type Read = [u64; 7];
@@ -90,6 +91,15 @@ pub struct Seen {
     pub due: Option<Frame>,
     /// How many frames stand in the inbox.
     pub inbox: usize,
+}
+
+/// What `card_read_out` gives of a node (request A.9).
+#[derive(Clone, Copy, Debug, PartialEq, Eq)]
+pub struct ReadOut {
+    /// The state of its generator.
+    pub state: u64,
+    /// Whether its first alias is past.
+    pub past: bool,
 }
 
 /// What `lcc_read_header` reads off a header, its kind by the number that c/card.h gives it.
@@ -180,6 +190,9 @@ impl Card {
                     card_enquiry(table, index.into(), len, id << 16)
                 }
                 Command::Release { index } => card_release(table, index.into()),
+                Command::Warm { index, id, flag, state } => {
+                    card_warm_on(table, index.into(), id, flag, state)
+                }
             }
         };
         Answer::of(number)
@@ -207,6 +220,14 @@ impl Card {
             0 => Answer::Sent(Frame::of_words(0, sent[0], sent[1], sent[2])),
             number => Answer::Refused(number),
         }
+    }
+
+    /// What can be read out of a node and given back at power-on; none where the node is Off, or there is no such node.
+    pub fn read_out(&self, index: usize) -> Option<ReadOut> {
+        let mut out: Out = [0; 2];
+        // SAFETY: as in `new`; `out` has the two words that the operation writes.
+        let number = unsafe { card_read_out(self.table.as_ptr(), index, out.as_mut_ptr()) };
+        (number == 0).then_some(ReadOut { state: out[0], past: out[1] == 1 })
     }
 
     /// What can be seen of a node; the index is below `PLACES`.

@@ -1,7 +1,8 @@
-//! The nine commands of a script, read from and written to bytes. Every operand byte is kept, used or not.
+//! The ten commands of a script, read from and written to bytes. Every operand byte is kept, used or not.
 
 use crate::frame::Frame;
 
+/// `Warm` is power-on with what was read out of a node (request A.9); its state has 48 bits.
 #[derive(Clone, Copy, Debug, PartialEq, Eq)]
 pub enum Command {
     On { index: u8, id: u64 },
@@ -13,6 +14,7 @@ pub enum Command {
     Message { index: u8, field: u16, len: u8, data: [u8; 8] },
     Enquiry { index: u8, len: u8, id: u64 },
     Release { index: u8 },
+    Warm { index: u8, id: u64, flag: u8, state: u64 },
 }
 
 /// What stands at the start of some bytes.
@@ -26,24 +28,25 @@ pub enum Read {
     Cut(usize),
 }
 
-/// How many operand bytes each of the commands 01 to 09 has.
-const OPERANDS: [usize; 9] = [7, 1, 1, 1, 0, 14, 12, 8, 1];
+/// How many operand bytes each of the commands 01 to 0A has.
+const OPERANDS: [usize; 10] = [7, 1, 1, 1, 0, 14, 12, 8, 1, 14];
 
 impl Command {
     /// Reads the first command of some bytes that are not empty.
     pub fn read(bytes: &[u8]) -> Read {
         let byte = bytes[0];
-        if !(1..=9).contains(&byte) {
+        let Some(operands) = usize::from(byte).checked_sub(1).and_then(|at| OPERANDS.get(at))
+        else {
             return Read::Unknown;
-        }
-        let size = 1 + OPERANDS[usize::from(byte) - 1];
+        };
+        let size = 1 + operands;
         match bytes.get(1..size) {
             Some(operands) => Read::Whole(Self::of_operands(byte, operands), size),
             None => Read::Cut(size),
         }
     }
 
-    /// The command of a byte from 1 to 9 with all its operands.
+    /// The command of a byte that is one's, with all its operands.
     fn of_operands(byte: u8, bytes: &[u8]) -> Command {
         let index = bytes.first().copied().unwrap_or(0);
         let eight = |from: usize| std::array::from_fn(|i| bytes[from + i]);
@@ -64,7 +67,11 @@ impl Command {
                 Command::Message { index, field, len: bytes[3], data: eight(4) }
             }
             8 => Command::Enquiry { index, len: bytes[1], id: number(&bytes[2..8]) },
-            _ => Command::Release { index },
+            9 => Command::Release { index },
+            _ => {
+                let (id, state) = (number(&bytes[1..7]), number(&bytes[8..14]));
+                Command::Warm { index, id, flag: bytes[7], state }
+            }
         }
     }
 
@@ -80,6 +87,7 @@ impl Command {
             Command::Message { .. } => 7,
             Command::Enquiry { .. } => 8,
             Command::Release { .. } => 9,
+            Command::Warm { .. } => 10,
         }
     }
 
@@ -93,7 +101,16 @@ impl Command {
             | Command::Deliver { index }
             | Command::Message { index, .. }
             | Command::Enquiry { index, .. }
-            | Command::Release { index } => Some(index),
+            | Command::Release { index }
+            | Command::Warm { index, .. } => Some(index),
+        }
+    }
+
+    /// The Node ID with which it powers a node on, cold or warm.
+    pub fn powers_on(&self) -> Option<u64> {
+        match *self {
+            Command::On { id, .. } | Command::Warm { id, .. } => Some(id),
+            _ => None,
         }
     }
 
@@ -117,6 +134,11 @@ impl Command {
             Command::Enquiry { len, id, .. } => {
                 script.push(len);
                 script.extend(&id.to_be_bytes()[2..]);
+            }
+            Command::Warm { id, flag, state, .. } => {
+                script.extend(&id.to_be_bytes()[2..]);
+                script.push(flag);
+                script.extend(&state.to_be_bytes()[2..]);
             }
             _ => {}
         }

@@ -11,11 +11,15 @@ use crate::play::{self, Act, Played};
 use crate::ticks::Ticks;
 use crate::told::Told;
 use crate::turn::Choice;
+use crate::warm::{self, WARM};
 use crate::watch::{Late, Moment};
 use crate::words;
 
 /// The column at which the words begin.
 const COLUMN: usize = 38;
+
+/// The refusal of a flag or a state by which no node is started.
+const BAD_START: u64 = 18;
 
 /// How the words beside a line are painted.
 enum Tone {
@@ -150,9 +154,16 @@ fn meaning(moment: &Moment) -> String {
     }
 }
 
-/// Why a command was refused; of a Node ID that is in use, at which node.
+/// Why a command was refused; of a Node ID that is in use, at which node; of a start, by which of its operands.
 fn why(number: u64, moment: &Moment) -> String {
-    InUse::of(moment).map_or_else(|| words::refusal(number).into(), |in_use| in_use.words())
+    let in_use = InUse::of(moment).map(|in_use| in_use.words());
+    let bad_start = match moment.command() {
+        Some(Command::Warm { flag, state, .. }) if number == BAD_START => {
+            warm::why_refused(flag, state)
+        }
+        _ => None,
+    };
+    in_use.or(bad_start).unwrap_or_else(|| words::refusal(number).into())
 }
 
 /// What a command asks for.
@@ -182,6 +193,11 @@ fn wanted(command: &Command) -> String {
             format!("the host of node {index} orders an enquiry of length {len}")
         }
         Command::Release { index } => format!("the host of node {index} releases its alias"),
+        Command::Warm { index, id, flag, state } => {
+            let (id, state) = (dotted_id(id), warm::state_digits(state));
+            let how = if flag == WARM { "warm".into() } else { format!("by flag {flag}") };
+            format!("power on node {index} {how}, state {state}, with Node ID {id}")
+        }
     }
 }
 
@@ -198,7 +214,7 @@ fn done(command: &Command, moment: &Moment) -> String {
     let index = moment.node().unwrap_or(0);
     let (before, after) = (&moment.before[index], &moment.after[index]);
     match command {
-        Command::On { .. } => powered(command, before, after),
+        Command::On { .. } | Command::Warm { .. } => powered(command, before, after),
         Command::Send { .. } => sent(moment, index),
         Command::Fail { .. } => failed(moment, index),
         Command::Deliver { .. } => delivered(moment, index),
@@ -250,7 +266,12 @@ fn powered(command: &Command, before: &Seen, after: &Seen) -> String {
         }
     };
     let again = if before.state == State::Off { "" } else { ", which was on" };
-    format!("{}{again}: {}{}{dropped}", wanted(command), words::standing(after), now_due(after))
+    let alias = match *command {
+        Command::Warm { flag, state, .. } => warm::why_this_alias(flag, state),
+        _ => String::new(),
+    };
+    let (wanted, standing, due) = (wanted(command), words::standing(after), now_due(after));
+    format!("{wanted}{again}: {standing}{alias}{due}{dropped}")
 }
 
 fn sent(moment: &Moment, index: usize) -> String {

@@ -2,7 +2,6 @@
 //! of the script it stands.
 
 use crate::card::{Answer, Seen, State, PLACES};
-use crate::command::Command;
 use crate::expand::Expanded;
 use crate::hex::dotted_id;
 use crate::watch::Moment;
@@ -26,7 +25,7 @@ pub struct InUse {
 
 impl InUse {
     pub fn of(moment: &Moment) -> Option<InUse> {
-        let Some(Command::On { id, .. }) = moment.command() else { return None };
+        let id = moment.command()?.powers_on()?;
         let index = moment.node().filter(|_| moment.played.answer == Answer::Refused(NUMBER))?;
         let seen = &moment.after;
         let user = (0..PLACES).find(|&other| seen[other].id == id)?;

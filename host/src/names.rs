@@ -6,9 +6,10 @@ use crate::gridconnect;
 use crate::link::Link;
 use crate::operands::{Parsed, Words};
 use crate::script::{Fault, Item, Line, Source};
+use crate::warm::WARM;
 
 /// The commands' names, each with its form.
-pub const FORMS: [(&str, &str); 13] = [
+pub const FORMS: [(&str, &str); 14] = [
     ("on", "on INDEX NODE-ID"),
     ("send", "send INDEX, or send all"),
     ("fail", "fail INDEX"),
@@ -18,6 +19,7 @@ pub const FORMS: [(&str, &str); 13] = [
     ("message", "message INDEX FIELD [DATA] [length N]"),
     ("enquiry", "enquiry INDEX [NODE-ID] [length N]"),
     ("release", "release INDEX"),
+    ("warm", "warm INDEX NODE-ID STATE [flag N]"),
     ("link", "link INDEX STATE"),
     ("turn", "turn"),
     ("settle", "settle COUNT, or settle COUNT turns"),
@@ -86,6 +88,7 @@ fn item(name: &str, words: &mut Words) -> Parsed<Item> {
         }
         "enquiry" => enquiry(words).map(Item::One),
         "release" => one(Command::Release { index: words.index()? }),
+        "warm" => warm(words).map(Item::One),
         "link" => Ok(Item::Link(Link { index: words.index()?, state: words.link_state()? })),
         "turn" => turn(words),
         "settle" => settle(words),
@@ -112,4 +115,10 @@ fn enquiry(words: &mut Words) -> Parsed<Command> {
     let index = words.index()?;
     let (id, len) = if words.has_more() { (words.id()?, 6) } else { (0, 0) };
     Ok(Command::Enquiry { index, len: words.length()?.unwrap_or(len), id })
+}
+
+/// The flag is 1 where it is left out: what a start is called warm for.
+fn warm(words: &mut Words) -> Parsed<Command> {
+    let (index, id, state) = (words.index()?, words.id()?, words.state()?);
+    Ok(Command::Warm { index, id, flag: words.flag()?.unwrap_or(WARM), state })
 }

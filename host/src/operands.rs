@@ -9,6 +9,7 @@ const COUNT_MAX: usize = 65_536;
 /// What stands before an operand that is given by its name, at the end of a line.
 const LENGTH: &str = "length";
 const BIT_28: &str = "bit28";
+const FLAG: &str = "flag";
 
 pub type Parsed<T> = Result<T, String>;
 
@@ -111,9 +112,14 @@ impl<'a> Words<'a> {
     }
 
     /// Up to so many hex digits.
-    pub fn digits(&mut self, what: &str, most: usize) -> Parsed<u32> {
+    pub fn digits(&mut self, what: &str, most: usize) -> Parsed<u64> {
         let expected = format!("1 to {most} hex digits");
         self.take(what, &expected, |word| (word.len() <= most).then(|| hex_number(word))?)
+    }
+
+    /// The state of a generator, of 48 bits.
+    pub fn state(&mut self) -> Parsed<u64> {
+        self.digits("generator state", 12)
     }
 
     pub fn alias(&mut self) -> Parsed<u16> {
@@ -139,7 +145,7 @@ impl<'a> Words<'a> {
             format!("{digits} or 8 hex digits")
         };
         let whole = |word: &str| [digits, 8].contains(&word.len()).then(|| hex_number(word))?;
-        self.take("header", &expected, whole)
+        self.take("header", &expected, whole).map(|header| header as u32)
     }
 
     /// Data in one word or more: how many bytes, and the bytes.
@@ -162,6 +168,14 @@ impl<'a> Words<'a> {
             return Ok(None);
         }
         self.number("length", 0, 255).map(|length| Some(length as u8))
+    }
+
+    /// `flag N`, where it stands: how a node is started, by a number that has a meaning or by another.
+    pub fn flag(&mut self) -> Parsed<Option<u8>> {
+        if !self.skip(FLAG) {
+            return Ok(None);
+        }
+        self.number("flag", 0, 255).map(|flag| Some(flag as u8))
     }
 
     /// `bit28 BIT`, where it stands: bit 28 of a foreign frame.
@@ -187,8 +201,8 @@ fn decimal(word: &str) -> Option<usize> {
     word.bytes().all(|c| c.is_ascii_digit()).then(|| word.parse().ok())?
 }
 
-fn hex_number(word: &str) -> Option<u32> {
-    word.bytes().all(|c| c.is_ascii_hexdigit()).then(|| u32::from_str_radix(word, 16).ok())?
+fn hex_number(word: &str) -> Option<u64> {
+    word.bytes().all(|c| c.is_ascii_hexdigit()).then(|| u64::from_str_radix(word, 16).ok())?
 }
 
 /// Bytes of two digits each, with or without points between them.

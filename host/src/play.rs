@@ -37,7 +37,7 @@ pub struct Played {
 }
 
 impl Played {
-    /// The command of the nine that it is, where it is one.
+    /// The command of the ten that it is, where it is one.
     pub fn command(&self) -> Option<Command> {
         match self.act {
             Act::Bytes(_, Read::Whole(command, _)) => Some(command),

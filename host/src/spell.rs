@@ -4,6 +4,7 @@ use crate::beside::{Beside, Placed};
 use crate::command::{Command, Read};
 use crate::frame::{Frame, Sort, ELEVEN_BIT, EXTENDED, REMOTE};
 use crate::hex::{dotted_id, joined};
+use crate::warm::{state_digits, WARM};
 
 /// The greatest count of one `tick`, and how many bytes stand in one line of `bytes`.
 const TICKS: usize = 65_536;
@@ -73,6 +74,10 @@ pub fn line(command: &Command) -> String {
             format!("enquiry {index} {} length {len}", dotted_id(id))
         }
         Command::Release { index } => format!("release {index}"),
+        Command::Warm { index, id, flag, state } => {
+            let flag = if flag == WARM { String::new() } else { format!(" flag {flag}") };
+            format!("warm {index} {} {}{flag}", dotted_id(id), state_digits(state))
+        }
     }
 }
 

@@ -1,21 +1,24 @@
 //! The table at the end of a run: a row for each exhibit, collisions, link states that were told, Node IDs that were in use,
-//! turns, whether the list was kept, how old frames became in it, and which came with bit 28 as 0.
+//! warm starts, turns, whether the list was kept, how old frames became in it, which came with bit 28 as 0, and the lines by which
+//! the nodes come back under their aliases.
 
 use crate::ages::Ages;
 use crate::bit_28::Bit28;
-use crate::card::{Card, Seen, State, PLACES};
+use crate::card::{Card, ReadOut, Seen, State, PLACES};
 use crate::expand::Expanded;
 use crate::frame::{Frame, Sort};
 use crate::hex::dotted_id;
 use crate::in_use::AllInUse;
 use crate::paint::Paint;
+use crate::save;
 use crate::shared::Shared;
 use crate::told::Told;
 use crate::turn::Turns;
+use crate::warm::{state_digits, WarmStarts};
 use crate::watch::{Arrival, Late, Moment};
 use crate::words;
 
-/// Of collisions, of link orders, of Node IDs in use, and of aliases with bit 28 as 0, so many are named one by one.
+/// Of collisions, of link orders, of Node IDs in use, of warm starts, and of aliases with bit 28 as 0, so many are named one by one.
 const NAMED: usize = 10;
 
 /// When a node came to the alias that it has, and how often it started again.
@@ -63,6 +66,7 @@ pub struct Summary {
     shared: Vec<Shared>,
     links: Vec<Told>,
     in_use: AllInUse,
+    warm: WarmStarts,
     turns: Turns,
     commands: usize,
     refused: usize,
@@ -83,6 +87,7 @@ impl Summary {
         self.shared.extend(Shared::of(moment));
         self.links.extend(Told::of(moment));
         self.in_use.note(moment);
+        self.warm.note(moment);
         self.turns.note(moment);
         self.late = self.late.or(moment.late);
         self.longest = moment.longest;
@@ -109,13 +114,14 @@ impl Summary {
         text += &paint.bold(&self.cells(&COLUMNS.map(|(name, _)| name.into())));
         text += "\n";
         for (from, to) in rows(&seen) {
-            text += &self.row(from, to, &seen[from], paint);
+            text += &self.row(from, to, &seen[from], card.read_out(from), paint);
         }
         text += &format!("\n{}\n", totals(&seen));
         text += &self.collisions_text();
         text += &self.shared_text();
         text += &self.links_text();
         text += &self.in_use_text(script);
+        text += &self.warm_text();
         text += &self.turns_text();
         let (commands, refused) =
             (words::count(self.commands, "command", "commands"), self.refused);
@@ -124,10 +130,18 @@ impl Summary {
             "{commands}, {refused} of them refused; {ticks}; {} on the bus.\n",
             words::count(frames, "frame", "frames")
         );
-        text + &self.verdict(paint) + "\n" + &self.ages_text(paint) + &self.bit_28_text(paint)
+        text += &(self.verdict(paint) + "\n");
+        text + &self.ages_text(paint) + &self.bit_28_text(paint) + &lines_text(card)
     }
 
-    fn row(&self, from: usize, to: usize, seen: &Seen, paint: Paint) -> String {
+    fn row(
+        &self,
+        from: usize,
+        to: usize,
+        seen: &Seen,
+        out: Option<ReadOut>,
+        paint: Paint,
+    ) -> String {
         let index = if from == to { from.to_string() } else { format!("{from}-{to}") };
         let row = &self.rows[from];
         let none = || "-".to_string();
@@ -139,6 +153,8 @@ impl Summary {
             cell(dotted_id(seen.id)),
             seen.state.name().into(),
             if seen.alias == 0 { none() } else { format!("{:03X}", seen.alias) },
+            out.map_or_else(none, |out| if out.past { "past" } else { "not past" }.into()),
+            out.map_or_else(none, |out| state_digits(out.state)),
             at(row.reserved),
             at(row.permitted),
             cell(row.restarts.to_string()),
@@ -198,6 +214,14 @@ impl Summary {
         named(&self.in_use.words(), self.in_use.lines(script))
     }
 
+    /// Where no node was started warm there is nothing to say.
+    fn warm_text(&self) -> String {
+        if self.warm.is_empty() {
+            return String::new();
+        }
+        named(&self.warm.words(), self.warm.lines())
+    }
+
     /// Where no choice was made there is nothing to say.
     fn turns_text(&self) -> String {
         if self.turns.is_empty() {
@@ -246,6 +270,18 @@ fn named(head: &str, all: impl ExactSizeIterator<Item = String>) -> String {
     text
 }
 
+/// Where no node is on there is nothing to come back.
+fn lines_text(card: &Card) -> String {
+    let lines = save::lines(card);
+    if lines.is_empty() {
+        return String::new();
+    }
+    let lines: String = lines.into_iter().map(|line| format!("  {line}\n")).collect();
+    format!(
+        "To come back under these aliases after a switch-off (--save OUT.lcc writes it):\n{lines}"
+    )
+}
+
 /// A due frame in the little room of its cell.
 fn due(frame: &Frame) -> String {
     match frame.sort() {
@@ -255,11 +291,13 @@ fn due(frame: &Frame) -> String {
 }
 
 /// The columns, each with its width. The last is there where there are turns.
-const COLUMNS: [(&str, usize); 10] = [
+const COLUMNS: [(&str, usize); 12] = [
     ("node", 5),
     ("Node ID", 17),
     ("state", 9),
     ("alias", 5),
+    ("first alias", 11),
+    ("generator", 12),
     ("reserved", 10),
     ("Permitted", 10),
     ("restarts", 8),

@@ -22,6 +22,8 @@ pub struct Options {
     pub picture: Option<PathBuf>,
     /// The frames that leave, and no lines.
     pub grid: bool,
+    /// A script that brings the nodes back under their aliases.
+    pub save: Option<PathBuf>,
 }
 
 /// What the first word can be.
@@ -51,7 +53,7 @@ pub fn parse(words: &[OsString]) -> Result<Wish, String> {
     let file = one_file(&files)?;
     if first != "run" && options != Options::default() {
         return Err(format!(
-            "{first} takes no option; --explain, --summary, --picture and --grid are for run"
+            "{first} takes no option; --explain, --summary, --picture, --grid and --save are for run"
         ));
     }
     Ok(match first.as_ref() {
@@ -71,9 +73,11 @@ fn rest(words: &[OsString]) -> Result<Rest, String> {
             Some("--explain") => rest.options.explain = true,
             Some("--summary") => rest.options.summary = true,
             Some("--grid") => rest.options.grid = true,
-            Some("--picture") => picture(&mut rest.options, words.next())?,
+            Some("--picture") => named(&mut rest.options.picture, &PICTURE, words.next())?,
+            Some("--save") => named(&mut rest.options.save, &SAVED, words.next())?,
             Some(option) if option.starts_with('-') && option != "-" => {
-                let known = "--explain, --summary, --picture OUT.svg, --grid or --help";
+                let known =
+                    "--explain, --summary, --picture OUT.svg, --grid, --save OUT.lcc or --help";
                 return Err(format!("there is no option {option}; expected {known}"));
             }
             _ => rest.files.push(word.into()),
@@ -86,18 +90,34 @@ fn rest(words: &[OsString]) -> Result<Rest, String> {
     Ok(rest)
 }
 
-/// A picture's name ends in .svg, so that no script is written over by mistake.
-fn picture(options: &mut Options, word: Option<&OsString>) -> Result<(), String> {
-    let is_svg = |name: &&OsString| {
-        Path::new(name).extension().is_some_and(|end| end.eq_ignore_ascii_case("svg"))
+/// An option that is followed by the name of what it writes. The name has an end of its own, so that one that is left out is seen.
+struct Written {
+    option: &'static str,
+    what: &'static str,
+    end: &'static str,
+}
+
+/// No script ends so, and none is written over by mistake.
+const PICTURE: Written = Written { option: "--picture", what: "picture", end: "svg" };
+/// This is a script; which of them it may write over, `save` says.
+const SAVED: Written = Written { option: "--save", what: "script", end: "lcc" };
+
+fn named(
+    place: &mut Option<PathBuf>,
+    written: &Written,
+    word: Option<&OsString>,
+) -> Result<(), String> {
+    let Written { option, what, end } = written;
+    let ends_so = |name: &&OsString| {
+        Path::new(name).extension().is_some_and(|found| found.eq_ignore_ascii_case(end))
     };
-    let Some(name) = word.filter(is_svg) else {
+    let Some(name) = word.filter(ends_so) else {
         let found = word.map_or("nothing".into(), |name| format!("\"{}\"", name.display()));
-        let expected = "the picture's name, which ends in .svg";
-        return Err(format!("--picture is followed by {found}; expected {expected}"));
+        let expected = format!("the {what}'s name, which ends in .{end}");
+        return Err(format!("{option} is followed by {found}; expected {expected}"));
     };
-    if options.picture.replace(name.into()).is_some() {
-        return Err("--picture is there twice; expected one picture".into());
+    if place.replace(name.into()).is_some() {
+        return Err(format!("{option} is there twice; expected one {what}"));
     }
     Ok(())
 }

@@ -140,7 +140,7 @@ impl Moment {
 
     /// The node that it powered on.
     pub fn powered_on(&self) -> Option<usize> {
-        let powers_on = matches!(self.command(), Some(Command::On { .. }));
+        let powers_on = self.command().is_some_and(|command| command.powers_on().is_some());
         self.node().filter(|_| powers_on && self.accepted())
     }
 
@@ -171,7 +171,7 @@ impl Moment {
     pub fn restarted(&self, index: usize) -> bool {
         let (before, after) = (&self.before[index], &self.after[index]);
         let command = self.command();
-        let powered = matches!(command, Some(Command::On { .. }));
+        let powered = command.is_some_and(|command| command.powers_on().is_some());
         // The next alias may be the same again; then only the due frame shows it.
         let may_restart = matches!(command, Some(Command::Deliver { .. } | Command::Fail { .. }));
         let same_alias = before.state == State::Testing && before.alias == after.alias;

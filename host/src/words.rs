@@ -144,6 +144,7 @@ pub fn refusal(number: u64) -> &'static str {
         11 => "the script ends within the command, and the run ends",
         14 => "the link state is above 2",
         15 => "the Node ID is in use at another index",
+        18 => "the flag is above 1, or the state has more than 48 bits",
         _ => "no reason is known for this number",
     }
 }

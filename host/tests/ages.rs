@@ -5,7 +5,7 @@ mod shown;
 
 use examples::example;
 use lcc::ages::Ages;
-use shown::{shown, Shown};
+use shown::{parted, shown, Shown};
 
 /// The examples just beyond the limits, with the ages of their names.
 const BEYOND: [(&str, usize, usize); 3] =
@@ -115,7 +115,7 @@ const WORDS: [(&str, &str); 7] = [
 fn the_summary_says_what_follows() {
     for (list, words) in WORDS {
         let (_, summary) = played(&format!("{UP}{list}"));
-        assert!(summary.ends_with(words), "{list}: {summary}");
+        assert!(parted(&summary).0.ends_with(words), "{list}: {summary}");
         assert!(!summary.contains("came to use"), "{list}: {summary}");
     }
 }

@@ -42,7 +42,7 @@ fn random_bytes_there_and_back() {
     let mut random = Random::new(1);
     for _ in 0..10_000 {
         let length = random.below(60);
-        let byte = |random: &mut Random| if random.below(3) > 0 { random.below(11) } else { random.below(256) } as u8;
+        let byte = |random: &mut Random| if random.below(3) > 0 { random.below(12) } else { random.below(256) } as u8;
         let bytes: Vec<u8> = (0..length).map(|_| byte(&mut random)).collect();
         assert_eq!(bytes_of(&spell::script(&bytes, &[])), bytes, "by name: {bytes:02X?}");
         assert_eq!(bytes_of(&listing::listing(&bytes)), bytes, "in hex: {bytes:02X?}");
@@ -129,7 +129,7 @@ fn link_orders_and_turns_have_no_byte() {
 }
 
 /// Each command's form, and the bytes that document 01 gives it.
-const FORMS: [(&str, &str); 35] = [
+const FORMS: [(&str, &str); 41] = [
     ("on 0 05.01.01.01.01.01", "01 00 05 01 01 01 01 01"),
     ("send 0", "02 00"),
     ("fail 23", "03 17"),
@@ -161,6 +161,12 @@ const FORMS: [(&str, &str); 35] = [
     ("enquiry 0 05.01.01.01.01.02", "08 00 06 05 01 01 01 01 02"),
     ("enquiry 0 05.01.01.01.01.02 length 5", "08 00 05 05 01 01 01 01 02"),
     ("release 0", "09 00"),
+    ("warm 0 05.01.01.01.01.01 220FA69D5AA8", "0A 00 05 01 01 01 01 01 01 22 0F A6 9D 5A A8"),
+    ("warm 23 050101010101 5", "0A 17 05 01 01 01 01 01 01 00 00 00 00 00 05"),
+    ("Warm 255 00.00.00.00.00.00 fff flag 1", "0A FF 00 00 00 00 00 00 01 00 00 00 00 0F FF"),
+    ("warm 0 FFFFFFFFFFFF FFFFFFFFFFFF flag 0", "0A 00 FF FF FF FF FF FF 00 FF FF FF FF FF FF"),
+    ("warm 1 050101010101 123456789ABC FLAG 2", "0A 01 05 01 01 01 01 01 02 12 34 56 78 9A BC"),
+    ("warm 1 050101010101 0 flag 255", "0A 01 05 01 01 01 01 01 FF 00 00 00 00 00 00"),
     ("bytes FF 01", "FF 01"),
     ("send all", ""),
     ("deliver all", ""),
@@ -171,6 +177,39 @@ const FORMS: [(&str, &str); 35] = [
 fn each_form_has_its_bytes() {
     for (name, hex) in FORMS {
         assert_eq!(bytes_of(name), bytes_of(hex), "{name}");
+    }
+}
+
+/// A warm start, and how `names` prints it: the state whole, and the flag where it is not 1.
+#[test]
+fn warm_starts_are_spelt() {
+    let lines = [
+        ("warm 0 050101010101 5", "warm 0 05.01.01.01.01.01 000000000005\n"),
+        ("warm 9 050101010101 abcdef flag 001", "warm 9 05.01.01.01.01.01 000000ABCDEF\n"),
+        (
+            "warm 9 050101010101 FFFFFFFFFFFF flag 0",
+            "warm 9 05.01.01.01.01.01 FFFFFFFFFFFF flag 0\n",
+        ),
+        ("warm 24 000000000000 0 flag 255", "warm 24 00.00.00.00.00.00 000000000000 flag 255\n"),
+    ];
+    for (line, printed) in lines {
+        let bytes = bytes_of(line);
+        assert_eq!(spell::script(&bytes, &[]), printed);
+        assert_eq!(bytes_of(printed), bytes, "{line}");
+        assert!(listing::listing(&bytes).ends_with(&format!(" # {printed}")), "{line}");
+    }
+}
+
+/// 0A is the last byte that is a command's; cut short by one byte it is none.
+#[test]
+fn the_last_command_is_0a() {
+    let end = |bytes: &str| script::parse(&format!("bytes {bytes}\nsend 0\n"));
+    assert!(end("0A 00 05 01 01 01 01 01 01 22 0F A6 9D 5A A8").is_ok());
+    let cut = end("0A 00 05 01 01 01 01 01 01 22 0F A6 9D 5A").expect_err("a byte is missing");
+    assert!(cut[0].why.contains("end after 14 of the 15 bytes of command 0A"), "{cut:?}");
+    for byte in [0, 11, 12, 255] {
+        let unknown = end(&format!("{byte:02X}")).expect_err("no command");
+        assert!(unknown[0].why.contains(&format!("the unknown command {byte:02X}")), "{unknown:?}");
     }
 }
 
@@ -223,7 +262,7 @@ fn all_goes_by_link_orders_too() {
 }
 
 /// Lines that are wrong, and what is said of each.
-const WRONG: [(&str, &str); 78] = [
+const WRONG: [(&str, &str); 93] = [
     ("sned 0", "\"sned\" is no command; expected one of on, send"),
     ("on", "the index is missing; expected a whole number from 0 to 255"),
     ("on 0", "the Node ID is missing; expected six bytes in hex, as 05.01.01.01.01.01"),
@@ -315,6 +354,28 @@ const WRONG: [(&str, &str); 78] = [
     ("message 0 15B4 0", "\"0\" is no data"),
     ("enquiry 0 0501", "\"0501\" is no Node ID"),
     ("release", "the index is missing"),
+    (
+        "warm",
+        "the index is missing; expected a whole number from 0 to 255, the nodes being 0 to 23; \
+         the form is: warm INDEX NODE-ID STATE [flag N]",
+    ),
+    ("warm 256 050101010101 0", "\"256\" is no index"),
+    ("warm 0", "the Node ID is missing; expected six bytes in hex"),
+    ("warm 0 0501 0", "\"0501\" is no Node ID"),
+    ("warm 0 050101010101", "the generator state is missing; expected 1 to 12 hex digits"),
+    (
+        "warm 0 050101010101 1000000000000",
+        "\"1000000000000\" is no generator state; expected 1 to 12 hex digits; the form is: warm INDEX",
+    ),
+    ("warm 0 050101010101 22.0F.A6.9D.5A.A8", "\"22.0F.A6.9D.5A.A8\" is no generator state"),
+    ("warm 0 050101010101 -1", "\"-1\" is no generator state"),
+    ("warm 0 050101010101 flag 0", "\"flag\" is no generator state"),
+    ("warm 0 050101010101 0 flag", "the flag is missing; expected a whole number from 0 to 255"),
+    ("warm 0 050101010101 0 flag 256", "\"256\" is no flag"),
+    ("warm 0 050101010101 0 flag 0 flag 0", "\"flag\" is too much; the form is: warm INDEX"),
+    ("warm 0 050101010101 0 1", "\"1\" is too much; the form is: warm INDEX"),
+    ("on 0 050101010101 flag 0", "\"flag\" is too much; the form is: on INDEX NODE-ID"),
+    ("warm all", "\"all\" is no index"),
     ("link", "the index is missing"),
     (
         "link 0",
@@ -428,6 +489,7 @@ fn forms_are_told_apart() {
         ("send 0 # 05 05", Names),
         ("link 0 off\n05", Names),
         ("turn\n05", Names),
+        ("warm 0 0 0\n05", Names),
         (":X17050263N;", Names),
         (":X17050263N;\n05", Names),
         (":x\n:\n05", Names),
@@ -442,7 +504,7 @@ fn forms_are_told_apart() {
 }
 
 /// Words of scripts, right and wrong.
-const WORDS: [&str; 26] = [
+const WORDS: [&str; 28] = [
     "on",
     "send",
     "foreign",
@@ -469,6 +531,8 @@ const WORDS: [&str; 26] = [
     "turns",
     ":X17050263N;",
     ":X",
+    "warm",
+    "flag",
 ];
 
 /// Whatever stands in a text, it is read or refused, and always by a line that is there.

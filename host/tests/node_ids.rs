@@ -47,6 +47,10 @@ fn the_node_that_has_the_node_id_is_named() {
                  node {index} stays Off until it is powered on with one of its own"
             );
             assert!(line.contains(" 01 refused 15 ") && line.ends_with(&words), "{line}");
+            let warm = format!("warm {index} 05.01.01.01.01.01 220FA69D5AA8 flag 9\n");
+            let line = last_line(&format!("{ON}{SENDS_AND_WAITS}{then}{warm}"));
+            let words = words.split_once(": refused").expect("it is said").1;
+            assert!(line.contains(" 0A refused 15 ") && line.ends_with(words), "{line}");
         }
     }
 }
@@ -87,7 +91,16 @@ fn nothing_is_said_of_other_power_ons() {
 }
 
 /// Scripts, and what the summary says between their collisions and their commands.
-const SUMMED_UP: [(&str, &str); 5] = [
+const SUMMED_UP: [(&str, &str); 6] = [
+    // By command 0A as by 01.
+    (
+        "warm 0 050101010101 7\nwarm 1 050101010101 7\non 2 050101010101\nsend 0\n",
+        "2 power-ons were refused because the Node ID is in use at another index:\n  \
+         line 2: node 1 with 05.01.01.01.01.01, which node 0 took in line 1\n  \
+         line 3: node 2 with 05.01.01.01.01.01, which node 0 took in line 1\n\
+         1 warm start, 0 of them up to Permitted under the alias that was given back:\n  \
+         node 0 at tick 0: started warm with alias 007; not Permitted yet\n",
+    ),
     (
         "# two lines\non 0 05.01.01.01.01.01\n\non 1 05.01.01.01.01.01 # the same\n",
         "1 power-on was refused because the Node ID is in use at another index:\n  \
@@ -166,15 +179,17 @@ fn users(seen: &[Seen; PLACES], id: u64) -> Vec<usize> {
 /// two nodes ever have one Node ID.
 #[test]
 fn a_node_id_is_refused_where_it_is_in_use() {
-    let (mut refused, mut on, mut own) = (0, 0, 0);
+    let (mut refused, mut on, mut own, mut warm) = (0, 0, 0, 0);
     moments(|moment, seed| {
         let why = format!("seed {seed}, {:?}", moment.played);
         for node in &moment.after {
             assert!(users(&moment.after, node.id).len() <= 1, "{why}");
         }
-        let (Some(Command::On { id, .. }), Some(index)) = (moment.command(), moment.node()) else {
+        let id = moment.command().and_then(|command| command.powers_on());
+        let (Some(id), Some(index)) = (id, moment.node()) else {
             return assert_eq!(InUse::of(moment), None, "{why}");
         };
+        warm += usize::from(matches!(moment.command(), Some(Command::Warm { .. })));
         let before = users(&moment.before, id);
         let user = before.iter().copied().find(|&user| user != index);
         assert_eq!(moment.played.answer == Answer::Refused(15), user.is_some(), "{why}");
@@ -185,7 +200,7 @@ fn a_node_id_is_refused_where_it_is_in_use() {
         own += usize::from(before == [index]);
     });
     assert!(
-        refused > 300 && on > 2_000 && own > 100,
-        "{refused} refused, {on} accepted, {own} own"
+        refused > 300 && on > 2_000 && own > 100 && warm > 300,
+        "{refused} refused, {on} accepted, {own} own, {warm} by command 0A"
     );
 }

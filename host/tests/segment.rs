@@ -9,6 +9,7 @@ use std::process::{Command, Stdio};
 
 use lcc::actions::fulfil;
 use lcc::card::Card;
+use lcc::command::{self, Read};
 use lcc::expand::expand;
 use lcc::usage::{Options, Wish};
 use lcc::{play, script};
@@ -203,6 +204,59 @@ fn random_scripts() {
         let text = random::script(&mut Random::new(1_000_000 + seed));
         same(&written("random.lcc", &text));
     }
+}
+
+/// The bytes of a script with another start in the place of each by command 0A, made of its index, its Node ID and its state.
+fn with_starts(bytes: &[u8], start: fn(u8, u64, u64) -> command::Command) -> Vec<u8> {
+    let (mut rest, mut changed) = (bytes, Vec::new());
+    while !rest.is_empty() {
+        let Read::Whole(command, size) = command::Command::read(rest) else {
+            panic!("all commands are whole: {rest:02X?}");
+        };
+        match command {
+            command::Command::Warm { index, id, state, .. } => start(index, id, state),
+            other => other,
+        }
+        .write(&mut changed);
+        rest = &rest[size..];
+    }
+    changed
+}
+
+/// Power-ons by command 0A of every sort: the lines are the program's.
+#[test]
+fn random_scripts_with_warm_starts() {
+    let (mut accepted, mut refused, mut in_use) = (0, 0, 0);
+    for seed in 0..SCRIPTS {
+        let file = written("warm.lcc", &random::by_warm_starts(seed));
+        same(&file);
+        let played = lines(&file);
+        accepted += played.matches(" 0A ok\n").count();
+        refused += played.matches(" 0A refused 18\n").count();
+        in_use += played.matches(" 0A refused 15\n").count();
+    }
+    assert!(
+        accepted > 1_500 && refused > 300 && in_use > 500,
+        "{accepted} accepted, {refused} refused by 18, {in_use} by 15"
+    );
+}
+
+/// With flag 0 command 0A is command 01, whatever the state: in a script that is the same else, the program's lines are the same
+/// but for the byte.
+#[test]
+fn flag_0_is_power_on() {
+    let mut cold = 0;
+    for seed in 0..SCRIPTS {
+        let text = random::by_warm_starts(seed);
+        let bytes = fulfil(&Wish::Bytes(written("cold.lcc", &text))).expect("it has bytes");
+        let flag_0 = |index, id, state| command::Command::Warm { index, id, flag: 0, state };
+        let printed = segment(&with_starts(&bytes, flag_0));
+        let on = |index, id, _| command::Command::On { index, id };
+        let by_01 = segment(&with_starts(&bytes, on));
+        assert_eq!(printed.replace(" 0A ", " 01 "), by_01, "seed {seed}:\n{text}");
+        cold += printed.matches(" 0A ok\n").count();
+    }
+    assert!(cold > 2_000, "{cold} with flag 0");
 }
 
 /// Around the limit of 65,536 bytes, with a command that it cuts and with one that it does not.

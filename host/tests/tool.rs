@@ -55,7 +55,7 @@ const PERMITTED: &str = "on 0 05.01.01.01.01.01\nsettle 204\nsend 0\nsend 0\n";
 
 #[test]
 fn bad_words_are_refused() {
-    let wrong: [(&[&str], &str); 15] = [
+    let wrong: [(&[&str], &str); 21] = [
         (&[], "a word is missing"),
         (&["walk", "a.lcc"], "\"walk\" is nothing that lcc does"),
         (&["run"], "the file is missing"),
@@ -69,11 +69,20 @@ fn bad_words_are_refused() {
         (&["hex", "-", "--explain"], "hex takes no option; --explain"),
         (
             &["names", "-", "--grid"],
-            "names takes no option; --explain, --summary, --picture and --grid",
+            "names takes no option; --explain, --summary, --picture, --grid and --save",
         ),
         (&["run", "-", "--grid", "--explain"], "--grid goes with neither --explain nor --summary"),
         (&["run", "-", "--summary", "--grid"], "it prints frames alone, for a viewer to read"),
-        (&["run", "-", "--gird"], "--picture OUT.svg, --grid or --help"),
+        (&["run", "-", "--save"], "--save is followed by nothing; expected the script's name"),
+        (&["run", "-", "--save", "--summary"], "--save is followed by \"--summary\"; expected"),
+        (&["run", "-", "--save", "a.svg"], "expected the script's name, which ends in .lcc"),
+        (
+            &["run", "-", "--save", "a.lcc", "--save", "b.lcc"],
+            "--save is there twice; expected one",
+        ),
+        (&["run", "--save", "a.lcc"], "the file is missing; expected one script"),
+        (&["bytes", "-", "--save", "a.lcc"], "bytes takes no option; --explain"),
+        (&["run", "-", "--gird"], "--picture OUT.svg, --grid, --save OUT.lcc or --help"),
     ];
     for (words, why) in wrong {
         let output = lcc(words, "tick");
@@ -372,6 +381,61 @@ fn link_orders_and_turns_do_not_count_for_the_limit() {
     assert!(text.ends_with(last), "{}", &text[text.len() - 200..]);
 }
 
+/// A script that was saved is one by itself: with more lines behind it the nodes come up under the aliases that they had.
+#[test]
+fn what_is_saved_can_be_played() {
+    let path = file("saved.lcc", "");
+    fs::remove_file(&path).expect("it is there");
+    let name = path.to_str().expect("a plain path");
+    let list = format!("{PERMITTED}on 7 05.01.01.01.11.00\nsettle 210\n");
+    let plain = out(&lcc(&["run", "-"], &list));
+    let output = lcc(&["run", "-", "--save", name], &list);
+    assert_eq!((output.status.code(), out(&output)), (Some(0), plain), "{}", err(&output));
+    let saved = fs::read_to_string(&path).expect("it is written");
+    let lines: Vec<&str> = saved.lines().filter(|line| !line.starts_with('#')).collect();
+    let expected = [
+        "on 0 05.01.01.01.01.01                  # alias 263",
+        "warm 7 05.01.01.01.11.00 220FA69D5CA9   # alias 8FA",
+    ];
+    assert_eq!(lines, expected);
+    let text = summed_up(&format!("{saved}settle 210\n"));
+    let back = "\n1 warm start, 1 of them up to Permitted under the alias that was given back:\n";
+    assert!(text.contains(back) && text.contains("  Permitted  8FA    past "), "{text}");
+    let again = lcc(&["run", "-", "--summary", "--save", name], &format!("{saved}settle 210\n"));
+    assert_eq!(again.status.code(), Some(0), "{}", err(&again));
+    assert_eq!(fs::read_to_string(&path).expect("it is written"), saved);
+    let grid = lcc(&["run", "-", "--grid", "--save", name], "on 3 050101010103\nsend 3\n");
+    assert_eq!((grid.status.code(), out(&grid).as_str()), (Some(0), ":X17050265N;\n"));
+    let saved = fs::read_to_string(&path).expect("it is written");
+    assert!(saved.ends_with("\non 3 05.01.01.01.01.03                  # alias 265\n"), "{saved}");
+}
+
+/// --save writes over what it has written, and over nothing else; then nothing is run.
+#[test]
+fn saving_writes_over_no_other_file() {
+    for text in ["send 0\n", "", "# Written by hand\n"] {
+        let path = file("by-hand.lcc", text);
+        let name = path.to_str().expect("a plain path");
+        for words in [["run", "-", "--save", name], ["run", name, "--save", name]] {
+            let output = lcc(&words, "tick\n");
+            assert_eq!((output.status.code(), out(&output).as_str()), (Some(2), ""), "{words:?}");
+            let why = format!(
+                "lcc: {name} is there already, and --save has not written it; \
+                 expected a new name, or one that --save has written\n"
+            );
+            assert_eq!(err(&output), why);
+            assert_eq!(fs::read_to_string(&path).expect("it is there"), text);
+        }
+    }
+    let output = lcc(&["run", "-", "--save", "no-such-folder/a.lcc"], "tick");
+    assert_eq!((output.status.code(), out(&output).as_str()), (Some(1), ""));
+    assert!(
+        err(&output).starts_with("lcc: cannot write no-such-folder/a.lcc: "),
+        "{}",
+        err(&output)
+    );
+}
+
 /// Link orders that were accepted stand below the table and on the node's line, and only where there are some.
 #[test]
 fn link_orders_are_summed_up_and_drawn() {
@@ -449,19 +513,19 @@ fn the_table_has_a_row_for_each_exhibit() {
         text.lines().skip_while(|line| !line.starts_with("node ")).skip(1).take(5).collect();
     assert_eq!(
         rows[0],
-        "0      -                  Off        -      -           -           -         -         -"
+        "0      -                  Off        -      -            -             -           -           -         -         -"
     );
     assert_eq!(
         rows[1],
-        "1      05.01.01.01.01.01  Permitted  263    tick 204    tick 205    0         -         1"
+        "1      05.01.01.01.01.01  Permitted  263    not past     050101010101  tick 204    tick 205    0         -         1"
     );
     assert_eq!(
         rows[3],
-        "3      05.01.01.01.01.02  Resting    -      tick 204    tick 205    0         -         0"
+        "3      05.01.01.01.01.02  Resting    -      not past     050101010102  tick 204    tick 205    0         -         0"
     );
     assert_eq!(
         rows[4],
-        "4-23   -                  Off        -      -           -           -         -         -"
+        "4-23   -                  Off        -      -            -             -           -           -         -         -"
     );
     assert!(
         text.contains("\n2 nodes on: 1 Permitted, 1 Resting; one uses an alias.\nNo collisions.\n"),

@@ -1,9 +1,11 @@
-// For C: the table's commands over a plain pointer to its words, answers as numbers. Beside them looking (look.rt), the map of
-// foreign aliases (map.rt), headers and aliases (lcc.rt), frames as text (grid.rt).
+// For C: the table's commands over a plain pointer to its words, answers as numbers. Beside them looking (look.rt), what a
+// warm power-on can be given later (read_out.rt), the map of foreign aliases (map.rt), headers and aliases (lcc.rt), frames as text
+// (grid.rt).
 pub mod grid;
 pub mod lcc;
 pub mod look;
 pub mod map;
+pub mod read_out;
 
 use headers::frame::Frame;
 use state::Answer;
@@ -12,7 +14,7 @@ use table::layout::Table;
 use table::layout::WORDS;
 use table::turns::Choice;
 ghost use mathlib.Core.Path.{_≡_};
-ghost use Rattle.segment_rules.specs.Rules.{powerOn, send, fail, deliver, tick, foreign, message, enquiry, release, link};
+ghost use Rattle.segment_rules.specs.Rules.{powerOn, send, fail, deliver, tick, foreign, message, enquiry, release, link, warmOn};
 ghost use Rattle.table.specs.Words.{Fresh, lateOf};
 ghost use Rattle.state.specs.Answers.{answerAs};
 ghost use Rattle.table.specs.Answers.{choiceAs};
@@ -162,6 +164,21 @@ pub extern "C" fn card_link(table: &mut [u64; WORDS], index: usize, state: u8) -
     ensures { λ r. ⌜ Coded (link index state) (now (table .entry)) r (now (table .exit)) ⌝ }
 {
     let a = table::commands::link(&mut *table, index, state);
+    code(a)
+}
+
+// With flag 1 under the alias of a generator state that was read out; with flag 0 as a power-on, whatever the state (A.9).
+#[no_mangle]
+pub extern "C" fn card_warm_on(
+    table: &mut [u64; WORDS],
+    index: usize,
+    id: u64,
+    flag: u8,
+    state: u64,
+) -> u64
+    ensures { λ r. ⌜ Coded (warmOn index id flag state) (now (table .entry)) r (now (table .exit)) ⌝ }
+{
+    let a = table::commands::warm_on(&mut *table, index, id, flag, state);
     code(a)
 }
 

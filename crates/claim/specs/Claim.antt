@@ -24,6 +24,7 @@ use Rattle.segment_rules.specs.Rules.{
   tick,
   foreign,
   choose,
+  readOut,
   answer,
   Told,
   told,
@@ -82,9 +83,11 @@ pub record SingleAliases (t : List ℕ) : Type 0 where
 
 -- THE CLAIM. What the rules give is `run start cs`, from the list's commands alone.
 pub record Claim (cs : List Command) (xs : List Told) (t : List ℕ) : Type 0 where
-  -- every answer: accepted, for a send with the frame that left, or the refusal's number; and a choice's index or none (A.8)
+  -- every answer: accepted, for a send with the frame that left, or the refusal's number; a choice's index or none (A.8); and what was
+  -- read out (A.9)
   pub answered : xs ≡ answers start cs
-  -- each node, and so its state, its alias in Testing, every alias it uses, and its due frame or that it has none
+  -- each node, and so its state, its alias in Testing, every alias it uses, its due frame or that it has none, and its generator and
+  -- whether its first alias is past (A.9)
   pub nodes : (k : ℕ) → k < places → nodeAt t k ≡ run start cs .at k .node
   -- each inbox in order, frames with their kinds
   pub inboxes : (k : ℕ) → k < places → map frameOf (inbox t k) ≡ run start cs .at k .inbox
@@ -155,6 +158,7 @@ one-tick (send n) = omega arith
 one-tick tick = omega arith
 one-tick (foreign f) = omega arith
 one-tick choose = omega arith
+one-tick (readOut n) = omega arith
 
 -- with no age above the limit before, none is above one more
 limit-step : (S : Segment) (G : ℕ → Ages) (c : Command) (k : ℕ) → k < places → InLimit limit limit (S .at k .node) (G k)

@@ -20,6 +20,7 @@ use Rattle.segment_rules.specs.Rules.{
   tick,
   foreign,
   choose,
+  readOut,
   stays,
   gets,
   placeBy,
@@ -40,6 +41,7 @@ OrderAt (send n) k P = Unit {0}
 OrderAt tick k P = Unit {0}
 OrderAt (foreign f) k P = Unit {0}
 OrderAt choose k P = Unit {0}
+OrderAt (readOut n) k P = Unit {0}
 
 pub by-order : (b : Bool) (m : Node) (p : Place) → placeBy (orderBy b m) p .node ≡ m
 by-order true m p = refl
@@ -82,3 +84,4 @@ module _ (R : Node → Node → Type 0) (same : (n : Node) → R n n) (heard : (
   each-node tick k o = ticked (S .at k .node)
   each-node (foreign f) k o = joined (trimmed f) (S .at k)
   each-node choose k o = same (S .at k .node)
+  each-node (readOut n) k o = same (S .at k .node)

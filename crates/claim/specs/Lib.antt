@@ -8,3 +8,4 @@ pub mod NodeIds
 pub mod Sight
 pub mod Bus
 pub mod Bit28
+pub mod WarmStarts

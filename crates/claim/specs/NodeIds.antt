@@ -6,8 +6,8 @@ use mathlib.Core.List.{List}
 use Prim.Native.Nat.{ℕ, _<_}
 use lib.Dec.{eqb}
 use borrow.Author.Tests.{lt-ltb, eqb-true, eqb-false, eq-eqb}
-use Rattle.node.specs.Rules.{Answer, accepted, refused, Value, wait, offNode, isOff, Order, powerOn, onOrder}
-use Rattle.node.specs.NodeId.{SameId, itself, tick-id, leave-id, received-id, order-id}
+use Rattle.node.specs.Rules.{Answer, accepted, refused, Value, wait, offNode, isOff, Order, onOrder}
+use Rattle.node.specs.NodeId.{Starts, SameId, itself, tick-id, leave-id, received-id, order-id}
 use Rattle.node.specs.declared.Node.{Node}
 use Rattle.segment_rules.specs.Rules.{
   places,
@@ -22,6 +22,7 @@ use Rattle.segment_rules.specs.Rules.{
   tick,
   foreign,
   choose,
+  readOut,
   hasId,
   idInUse,
   answer,
@@ -34,7 +35,7 @@ use Rattle.segment_rules.specs.Rules.{
   step,
   run,
 }
-use Rattle.segment_rules.specs.Others.{none-such}
+use Rattle.segment_rules.specs.Others.{none-such, starts-ask}
 use Rattle.segment_rules.specs.Passed.{one-passed}
 use Rattle.claim.specs.EachNode.{OrderAt, by-order, each-node}
 use Rattle.claim.specs.Single.{after-list}
@@ -84,11 +85,11 @@ module _ (S : Segment) where
       is : after c k ≡ m
       is = ap (λ (b : Bool). placeBy (cond b (effectAt (S .at k) (orders x)) stays) (S .at k) .node) (eq-eqb k n q) ∙ by-order (empties x) m (S .at k)
 
-      go : ((id : ℕ) × (x ≡ powerOn id) × (m .own .id ≡ id)) ⊎ SameId (S .at k .node) m → Renews c k ⊎ Keeps c k
-      go (inl (id, ex, ei)) = inl (λ j hj ne. (
+      go : ((id : ℕ) × Starts id x × (m .own .id ≡ id)) ⊎ SameId (S .at k .node) m → Renews c k ⊎ Keeps c k
+      go (inl (id, st, ei)) = inl (λ j hj ne. (
         keeps c j (λ d. absurd (ne (d ∙ sym q))),
         ap (λ (i : ℕ). hasId i (S .at j)) (ap (λ (y : Node). y .own .id) is ∙ ei)
-            ∙ none-such (hasId id) n S places j (ap (λ (y : Order). idInUse S n (orders y)) (sym ex) ∙ u) hj (λ d. ne (d ∙ sym q)),
+            ∙ none-such (hasId id) n S places j (sym (starts-ask S n id x st) ∙ u) hj (λ d. ne (d ∙ sym q)),
       ))
       go (inr s) = inr (keeps c k (λ d. s))
 
@@ -103,6 +104,7 @@ module _ (S : Segment) where
   each-place tick v e k = inr (keeps tick k tt)
   each-place (foreign f) v e k = inr (keeps (foreign f) k tt)
   each-place choose v e k = inr (keeps choose k tt)
+  each-place (readOut n) v e k = inr (keeps (readOut n) k tt)
 
   -- so two nodes have two Node IDs after a command where they had before
   carried-apart : (c : Command) (v : Value) → answer S c ≡ accepted v → AllApart S → (p q : ℕ) → p < places → q < places → p ≢ q → Apart (after c p) (after c q)

@@ -4,7 +4,6 @@ use mathlib.Core.Logic.{_⊎_, inl, inr}
 use mathlib.Core.Bool.{Bool, false, not, _||_}
 use Prim.Native.Nat.{ℕ, _^_}
 use lib.Dec.{ltb, leb, eqb}
-use Rattle.headers.specs.Rules.{Answer, accepted, refused, firstAlias}
 use Rattle.node.specs.Rules.{
   isOff,
   isPermitted,
@@ -29,8 +28,6 @@ use Rattle.node.specs.Rules.{
   received,
   linkTold,
   linkOf,
-  poweredBy,
-  onPowerOn,
   onLeave,
   onMessage,
   onEnquiry,
@@ -41,10 +38,11 @@ use Rattle.node.specs.Rules.{
   enquiry,
   release,
   link,
+  warmOn,
   onOrder,
 }
 use Rattle.node.specs.Still.{takenBy, taken-received}
-use Rattle.node.specs.Given.{either, leaves-given, fails-given, release-given, link-given, ordered-given}
+use Rattle.node.specs.Given.{either, power-given, warm-given, leaves-given, fails-given, release-given, link-given, ordered-given}
 use Rattle.headers.specs.declared.frame.Frame.{Frame}
 use Rattle.node.specs.declared.Node.{Node}
 use Rattle.state.specs.Concerns.{concern}
@@ -55,6 +53,11 @@ use Rattle.state.specs.declared.Waiting.{Waiting}
 use Rattle.state.specs.declared.Reason.the-variants.{Collision, Release}
 use Rattle.state.specs.declared.Phase.{Phase}
 use Rattle.state.specs.declared.Phase.the-variants.{Off, Testing, Reserved, Permitted, Leaving, Resting, Silent}
+
+-- A power-on with this Node ID, of either sort.
+pub data Starts (id : ℕ) : Order → Type 0 where
+  coldly : Starts id (powerOn id)
+  warmly : {flag state : ℕ} → Starts id (warmOn id flag state)
 
 -- The node m has the Node ID of n, and is Off where n is.
 pub record SameId (n m : Node) : Type 0 where
@@ -157,13 +160,15 @@ module _ (n : Node) where
   told-id l = either Q (isPermitted (n .phase)) _ _ (λ d. record { id = refl; off = refl }) (λ d. record { id = refl; off = refl })
 
   -- An order is a power-on that gives the node its Node ID, or changes neither.
-  pub order-id : (w : ℕ) (x : Order) → ((id : ℕ) × (x ≡ powerOn id) × (onOrder w n x .node .own .id ≡ id)) ⊎ SameId n (onOrder w n x .node)
-  unfolding onPowerOn onMessage onEnquiry fresh moved
-  order-id w (powerOn id) = go (firstAlias id)
-    where
-      go : (a : Answer ℕ) → let m = poweredBy a n id .node in ((i : ℕ) × (_≡_ {A = Order} (powerOn id) (powerOn i)) × (m .own .id ≡ i)) ⊎ SameId n m
-      go (accepted a) = inl (id, refl, refl)
-      go (refused number) = inr itself
+  pub order-id : (w : ℕ) (x : Order) → ((id : ℕ) × Starts id x × (onOrder w n x .node .own .id ≡ id)) ⊎ SameId n (onOrder w n x .node)
+  unfolding onMessage onEnquiry fresh moved
+  order-id w (powerOn id) =
+      power-given (λ m. ((i : ℕ) × Starts i (powerOn id) × (m .own .id ≡ i)) ⊎ SameId n m) n (inr itself) id
+      (λ a e. inl (id, coldly, refl))
+  order-id w (warmOn id flag x) =
+      warm-given (λ m. ((i : ℕ) × Starts i (warmOn id flag x) × (m .own .id ≡ i)) ⊎ SameId n m) n (inr itself) id flag x
+      (λ a e. inl (id, warmly, refl))
+      (λ a e l. inl (id, warmly, refl))
   order-id w fail = inr (fails-given Q n itself w failed-id)
   order-id w (message f l b) = inr (ordered-given Q n itself (leb (2 ^ 15) f || ltb 8 l) _ (λ d e. waits-id _))
   order-id w (enquiry l b) = inr (ordered-given Q n itself (not (eqb l 0 || eqb l 6)) _ (λ d e. waits-id _))

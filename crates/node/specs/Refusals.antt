@@ -27,6 +27,9 @@ use Rattle.node.specs.Rules.{
   resulting,
   poweredBy,
   onPowerOn,
+  badStart,
+  startedBy,
+  onWarmOn,
   dueAnswer,
   onLeave,
   failAnswer,
@@ -47,6 +50,7 @@ use Rattle.node.specs.Rules.{
   enquiry,
   release,
   link,
+  warmOn,
   Event,
   order,
   leave,
@@ -79,6 +83,15 @@ module _ (w : ℕ) (n : Node) where
       go : (b : Bool) (a : ℕ) → TwoDigits (poweredBy (refuse b 3 (accepted a)) n id .answer)
       go true a = omega arith
       go false a = tt
+
+  -- A.9
+  two-warm : (id flag x : ℕ) → TwoDigits (onWarmOn n id flag x .answer)
+  unfolding onWarmOn
+  two-warm id flag x = go (badNodeId id) (1 + id % 4095)
+    where
+      go : (b : Bool) (a : ℕ) → TwoDigits (startedBy (refuse b 3 (accepted a)) n id flag x .answer)
+      go true a = omega arith
+      go false a = two-resulting (refuse (badStart flag x) 18 (accepted done)) n _ (two-refuse (badStart flag x) 18 (accepted done) (omega arith) tt)
 
   -- 2, then what else there is to refuse
   two-off : (a : Answer Value) (m : Node) → TwoDigits a → TwoDigits (resulting (refuse (isOff (n .phase)) 2 a) n m .answer)
@@ -123,6 +136,7 @@ module _ (w : ℕ) (n : Node) where
   two-digits (order (enquiry l b)) = two-ordered (not (eqb l 0 || eqb l 6)) _
   two-digits (order release) = two-off _ (moved n (Leaving Release)) (two-refuse (not (isPermitted (n .phase))) 7 (accepted done) (omega arith) tt)
   two-digits (order (link s)) = two-off _ (linkTold n (linkOf s)) (two-refuse (ltb 2 s) 14 (accepted done) (omega arith) tt)
+  two-digits (order (warmOn id flag x)) = two-warm id flag x
   two-digits leave = two-leave
   two-digits (receive f) = two-off _ (received n f) (two-refuse (malformed f) 9 (accepted done) (omega arith) tt)
   two-digits tick = tt

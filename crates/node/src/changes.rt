@@ -1,4 +1,5 @@
 // The few ways in which a node changes, and the node before its first power-on.
+use crate::Generator;
 use crate::Node;
 use crate::Own;
 use headers::alias::Alias;
@@ -17,19 +18,23 @@ impl Node {
             id: 0,
             link: Link::ErrorActive,
         };
+        let g = Generator {
+            state: 0,
+            past: false,
+        };
         let w = Waiting::none();
         Node {
             own: o,
             alias: Alias(0),
-            generator: 0,
+            generator: g,
             phase: Phase::Off,
             waiting: w,
         }
     }
 
-    // The node at power-on.
-    pub(crate) fn fresh(id: u64, alias: Alias) -> Node
-        ensures { λ r. ⌜ r ≡ fresh id alias ⌝ }
+    // The node at power-on, cold or warm.
+    pub(crate) fn fresh(id: u64, alias: Alias, generator: Generator) -> Node
+        ensures { λ r. ⌜ r ≡ fresh id alias generator ⌝ }
     {
         let o = Own {
             id: id,
@@ -39,7 +44,7 @@ impl Node {
         Node {
             own: o,
             alias: alias,
-            generator: id,
+            generator: generator,
             phase: Phase::Testing(0, 0),
             waiting: w,
         }
@@ -51,11 +56,12 @@ impl Node {
     {
         let o = self.own;
         let a = self.alias;
+        let g = self.generator;
         let w = Waiting::none();
         Node {
             own: o,
             alias: a,
-            generator: self.generator,
+            generator: g,
             phase: p,
             waiting: w,
         }
@@ -67,11 +73,12 @@ impl Node {
     {
         let o = self.own;
         let a = self.alias;
+        let g = self.generator;
         let w = self.waiting;
         Node {
             own: o,
             alias: a,
-            generator: self.generator,
+            generator: g,
             phase: p,
             waiting: w,
         }
@@ -83,11 +90,12 @@ impl Node {
     {
         let o = self.own;
         let a = self.alias;
+        let g = self.generator;
         let p = self.phase;
         Node {
             own: o,
             alias: a,
-            generator: self.generator,
+            generator: g,
             phase: p,
             waiting: w,
         }
@@ -103,12 +111,13 @@ impl Node {
             link: l,
         };
         let a = self.alias;
+        let g = self.generator;
         let p = self.phase;
         let w = self.waiting;
         Node {
             own: o,
             alias: a,
-            generator: self.generator,
+            generator: g,
             phase: p,
             waiting: w,
         }
@@ -118,8 +127,13 @@ impl Node {
     pub(crate) fn restarted(self) -> Node
         ensures { λ r. ⌜ r ≡ restart self ⌝ }
     {
-        let g = headers::alias::step_from(self.generator);
-        let a = headers::alias::drawn_from(g);
+        let before = self.generator;
+        let x = headers::alias::step_from(before.state);
+        let a = headers::alias::drawn_from(x);
+        let g = Generator {
+            state: x,
+            past: true,
+        };
         let own = self.own;
         let w = Waiting::none();
         Node {

@@ -106,52 +106,56 @@ host-enquiry l x r b (ex, hl) e =
     let q : r / 2 ^ 8 ≡ l = omega arith in
     λ i. hostFrom (t i) (r / 2 ^ 16 % 2 ^ 16) (whole 8 (r / 2 ^ 8) l hl q i) b
 
--- the word of alias, link state, phase and flags
-pub state-of : (n : Node) (w a r m o e k l p : ℕ) → (a ≡ n .alias .0) × (n .alias .0 < 2 ^ 16)
+-- the word of alias, link state, whether the first alias is past, phase and what waits
+pub state-of : (n : Node) (w a r m o e k l f p : ℕ) → (a ≡ n .alias .0) × (n .alias .0 < 2 ^ 16)
     → (eqb r 1 ≡ n .waiting .reply) × (r < 2) → (eqb m 1 ≡ n .waiting .amd) × (m < 2) → (eqb o 1 ≡ n .waiting .report) × (o < 2)
     → (errorFrom e ≡ n .waiting .error) × (e < 8) → (linkOf k ≡ n .own .link) × (k < 3) → (l ≡ k) × (k < 2 ^ 8)
-    → (phaseAt p ≡ n .phase) × (p < 2 ^ 19)
-    → w ≡ a + 2 ^ 16 * r + 2 ^ 17 * m + 2 ^ 18 * o + 2 ^ 19 * e + 2 ^ 22 * l + 2 ^ 24 * p → StateOf n w
-state-of n w a r m o e k l p (ea, ha) (er, hr) (em, hm) (eo, ho) (ee, he) (ek, hk) (el, hk′) (ep, hp) ew =
-    let p′ : w / 2 ^ 24 ≡ p = omega arith in
-    let k′ : w / 2 ^ 22 ≡ k + 4 * p = omega arith in
-    let e′ : w / 2 ^ 19 ≡ e + 8 * (k + 4 * p) = omega arith in
-    let o′ : w / 2 ^ 18 ≡ o + 2 * (e + 8 * (k + 4 * p)) = omega arith in
-    let m′ : w / 2 ^ 17 ≡ m + 2 * (o + 2 * (e + 8 * (k + 4 * p))) = omega arith in
-    let r′ : w / 2 ^ 16 ≡ r + 2 * (m + 2 * (o + 2 * (e + 8 * (k + 4 * p)))) = omega arith in
+    → (eqb f 1 ≡ n .generator .past) × (f < 2) → (phaseAt p ≡ n .phase) × (p < 2 ^ 19)
+    → w ≡ a + 2 ^ 16 * r + 2 ^ 17 * m + 2 ^ 18 * o + 2 ^ 19 * e + 2 ^ 22 * l + 2 ^ 24 * f + 2 ^ 25 * p → StateOf n w
+state-of n w a r m o e k l f p (ea, ha) (er, hr) (em, hm) (eo, ho) (ee, he) (ek, hk) (el, hk′) (ef, hf) (ep, hp) ew =
+    let p′ : w / 2 ^ 25 ≡ p = omega arith in
+    let f′ : w / 2 ^ 24 ≡ f + 2 * p = omega arith in
+    let k′ : w / 2 ^ 22 ≡ k + 4 * (f + 2 * p) = omega arith in
+    let e′ : w / 2 ^ 19 ≡ e + 8 * (k + 4 * (f + 2 * p)) = omega arith in
+    let o′ : w / 2 ^ 18 ≡ o + 2 * (e + 8 * (k + 4 * (f + 2 * p))) = omega arith in
+    let m′ : w / 2 ^ 17 ≡ m + 2 * (o + 2 * (e + 8 * (k + 4 * (f + 2 * p)))) = omega arith in
+    let r′ : w / 2 ^ 16 ≡ r + 2 * (m + 2 * (o + 2 * (e + 8 * (k + 4 * (f + 2 * p))))) = omega arith in
     let er′ : eqb (w / 2 ^ 16 % 2) 1 ≡ n .waiting .reply = ap (λ (z : ℕ). eqb z 1) (part 1 (w / 2 ^ 16) r _ hr r′) ∙ er in
     let em′ : eqb (w / 2 ^ 17 % 2) 1 ≡ n .waiting .amd = ap (λ (z : ℕ). eqb z 1) (part 1 (w / 2 ^ 17) m _ hm m′) ∙ em in
     let eo′ : eqb (w / 2 ^ 18 % 2) 1 ≡ n .waiting .report = ap (λ (z : ℕ). eqb z 1) (part 1 (w / 2 ^ 18) o _ ho o′) ∙ eo in
     let ee′ : errorFrom (w / 2 ^ 19 % 8) ≡ n .waiting .error = ap errorFrom (part 3 (w / 2 ^ 19) e _ he e′) ∙ ee in
     let ea′ : w % 2 ^ 16 ≡ n .alias .0 = omega arith in
     record {
-      link = ap linkOf (part 2 (w / 2 ^ 22) k p (omega arith) k′) ∙ ek;
+      link = ap linkOf (part 2 (w / 2 ^ 22) k _ (omega arith) k′) ∙ ek;
       alias = λ i. record { 0 = ea′ i };
-      phase = ap phaseAt (whole 19 (w / 2 ^ 24) p hp p′) ∙ ep;
+      past = ap (λ (z : ℕ). eqb z 1) (part 1 (w / 2 ^ 24) f p hf f′) ∙ ef;
+      phase = ap phaseAt (whole 19 (w / 2 ^ 25) p hp p′) ∙ ep;
       waiting = λ i. record { reply = er′ i; amd = em′ i; report = eo′ i; error = ee′ i; host = n .waiting .host };
     }
 
--- what stands below the phase goes by the 24 low digits: j digits from k on, with l above them
+-- what stands below the phase goes by the 25 low digits: j digits from k on, with l above them
 low-field : (r w l j k : ℕ) → r % 2 ^ (l + (j + k)) ≡ w % 2 ^ (l + (j + k)) → r / 2 ^ k % 2 ^ j ≡ w / 2 ^ k % 2 ^ j
 low-field r w l j k e =
     sym (field r j k)
     ∙ ap (λ (x : ℕ). x / 2 ^ k) (sym (mod-mod-pow r l (j + k)) ∙ ap (λ (x : ℕ). x % 2 ^ (j + k)) e ∙ mod-mod-pow w l (j + k))
     ∙ field w j k
 
-pub rephased : (w r p : ℕ) (x : Phase) → (phaseAt p ≡ x) × (p < 2 ^ 19) → r ≡ w % 2 ^ 24 + 2 ^ 24 * p → Rephased w x r
+pub rephased : (w r p : ℕ) (x : Phase) → (phaseAt p ≡ x) × (p < 2 ^ 19) → r ≡ w % 2 ^ 25 + 2 ^ 25 * p → Rephased w x r
 rephased w r p x (ep, hp) er =
-    let e24 : r % 2 ^ 24 ≡ w % 2 ^ 24 = omega arith in
-    let p′ : r / 2 ^ 24 ≡ p = omega arith in
-    let a′ : r % 2 ^ 16 ≡ w % 2 ^ 16 = sym (mod-mod-pow r 8 16) ∙ ap (λ (x : ℕ). x % 2 ^ 16) e24 ∙ mod-mod-pow w 8 16 in
-    let r′ : r / 2 ^ 16 % 2 ≡ w / 2 ^ 16 % 2 = low-field r w 7 1 16 e24 in
-    let m′ : r / 2 ^ 17 % 2 ≡ w / 2 ^ 17 % 2 = low-field r w 6 1 17 e24 in
-    let o′ : r / 2 ^ 18 % 2 ≡ w / 2 ^ 18 % 2 = low-field r w 5 1 18 e24 in
-    let e′ : r / 2 ^ 19 % 8 ≡ w / 2 ^ 19 % 8 = low-field r w 2 3 19 e24 in
-    let l′ : r / 2 ^ 22 % 4 ≡ w / 2 ^ 22 % 4 = low-field r w 0 2 22 e24 in
+    let low : r % 2 ^ 25 ≡ w % 2 ^ 25 = omega arith in
+    let p′ : r / 2 ^ 25 ≡ p = omega arith in
+    let a′ : r % 2 ^ 16 ≡ w % 2 ^ 16 = sym (mod-mod-pow r 9 16) ∙ ap (λ (x : ℕ). x % 2 ^ 16) low ∙ mod-mod-pow w 9 16 in
+    let r′ : r / 2 ^ 16 % 2 ≡ w / 2 ^ 16 % 2 = low-field r w 8 1 16 low in
+    let m′ : r / 2 ^ 17 % 2 ≡ w / 2 ^ 17 % 2 = low-field r w 7 1 17 low in
+    let o′ : r / 2 ^ 18 % 2 ≡ w / 2 ^ 18 % 2 = low-field r w 6 1 18 low in
+    let e′ : r / 2 ^ 19 % 8 ≡ w / 2 ^ 19 % 8 = low-field r w 3 3 19 low in
+    let l′ : r / 2 ^ 22 % 4 ≡ w / 2 ^ 22 % 4 = low-field r w 1 2 22 low in
+    let f′ : r / 2 ^ 24 % 2 ≡ w / 2 ^ 24 % 2 = low-field r w 0 1 24 low in
     record {
       link = ap linkOf l′;
       alias = λ i. record { 0 = a′ i };
-      phase = ap phaseAt (whole 19 (r / 2 ^ 24) p hp p′) ∙ ep;
+      past = ap (λ (z : ℕ). eqb z 1) f′;
+      phase = ap phaseAt (whole 19 (r / 2 ^ 25) p hp p′) ∙ ep;
       waiting = λ h i. record { reply = eqb (r′ i) 1; amd = eqb (m′ i) 1; report = eqb (o′ i) 1; error = errorFrom (e′ i); host = h };
     }
 
@@ -171,8 +175,8 @@ off-from t s w = go (ltb t 1) (ltb t 2) (ltb t 3) (ltb t 4) (ltb t 5) (ltb t 6) 
     go false false false false false false true = refl
     go false false false false false false false = refl
 
-pub off-in : (w : ℕ) → ltb (w / 2 ^ 24 % 8) 1 ≡ isOff (phaseIn w)
+pub off-in : (w : ℕ) → ltb (w / 2 ^ 25 % 8) 1 ≡ isOff (phaseIn w)
 unfolding phaseAt
 off-in w =
-    let e : w / 2 ^ 24 % 2 ^ 19 % 8 ≡ w / 2 ^ 24 % 8 = omega arith in
-    sym (off-from (w / 2 ^ 24 % 2 ^ 19 % 8) _ _ ∙ ap (λ (z : ℕ). ltb z 1) e)
+    let e : w / 2 ^ 25 % 2 ^ 19 % 8 ≡ w / 2 ^ 25 % 8 = omega arith in
+    sym (off-from (w / 2 ^ 25 % 2 ^ 19 % 8) _ _ ∙ ap (λ (z : ℕ). ltb z 1) e)

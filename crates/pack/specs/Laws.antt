@@ -6,15 +6,15 @@ use mathlib.Core.List.{List, [], _∷_}
 use Prim.Native.Nat.{ℕ, _<_}
 use native.Mathlib.Omega.{arith}
 use lib.ListN.{getD}
-use Rattle.node.specs.Rules.{offNode, counted}
+use Rattle.node.specs.Rules.{generator, offNode, counted}
 use Rattle.node.specs.declared.Node.{Node}
 use Rattle.state.specs.declared.Phase.{Phase}
-use Rattle.pack.specs.Words.{aliasFrom, linkIn, phaseAt, phaseIn, hostAt, hostBytes, waitingFrom, nodeWords, nodeFrom, StateOf, Rephased}
+use Rattle.pack.specs.Words.{aliasFrom, linkIn, pastIn, phaseAt, phaseIn, hostAt, hostBytes, waitingFrom, nodeWords, nodeFrom, StateOf, Rephased}
 
 pub node-same : (v w : ℕ → ℕ) → ((j : ℕ) → j < nodeWords → v j ≡ w j) → nodeFrom v ≡ nodeFrom w
 node-same v w e = λ i. record {
   own = record { id = e 0 (omega arith) i; link = linkIn (e 2 (omega arith) i) };
-  generator = e 1 (omega arith) i;
+  generator = generator (e 1 (omega arith) i) (pastIn (e 2 (omega arith) i));
   alias = aliasFrom (e 2 (omega arith) i);
   phase = phaseIn (e 2 (omega arith) i);
   waiting = waitingFrom (e 2 (omega arith) i) (hostAt (e 3 (omega arith) i) (e 4 (omega arith) i));
@@ -25,7 +25,7 @@ pub node-phased : (v w : ℕ → ℕ) (p : Phase) → ((j : ℕ) → j < nodeWor
 unfolding counted
 node-phased v w p e r = λ i. record {
   own = record { id = e 0 (omega arith) (omega arith) i; link = r .link i };
-  generator = e 1 (omega arith) (omega arith) i;
+  generator = generator (e 1 (omega arith) (omega arith) i) (r .past i);
   alias = r .alias i;
   phase = r .phase i;
   waiting = (ap (waitingFrom (v 2)) (λ j. hostAt (e 3 (omega arith) (omega arith) j) (e 4 (omega arith) (omega arith) j)) ∙ r .waiting (hostAt (w 3) (w 4))) i;
@@ -33,7 +33,7 @@ node-phased v w p e r = λ i. record {
 
 -- a node's words, those of its state and of the host's order given
 abbrev pub wordsOf : Node → (w h d : ℕ) → List ℕ
-wordsOf n w h d = n .own .id ∷ n .generator ∷ w ∷ h ∷ d ∷ []
+wordsOf n w h d = n .own .id ∷ n .generator .state ∷ w ∷ h ∷ d ∷ []
 
 pub node-back : (n : Node) (w h d : ℕ) → StateOf n w → hostAt h (hostBytes (n .waiting .host)) ≡ n .waiting .host → d ≡ hostBytes (n .waiting .host)
     → nodeFrom (λ j. getD (wordsOf n w h d) j 0) ≡ n
@@ -41,7 +41,7 @@ node-back n w h d s eh ed =
     let e : hostAt h d ≡ n .waiting .host = ap (hostAt h) ed ∙ eh in
     λ i. record {
       own = record { id = n .own .id; link = s .link i };
-      generator = n .generator;
+      generator = generator (n .generator .state) (s .past i);
       alias = s .alias i;
       phase = s .phase i;
       waiting = (ap (waitingFrom w) e ∙ s .waiting) i;

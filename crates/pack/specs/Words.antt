@@ -3,7 +3,7 @@ use mathlib.Core.Path.{_≡_}
 use Prim.Native.Nat.{ℕ, _+_, _-_, _/_, _%_, _^_}
 use mathlib.Core.Bool.{Bool, cond}
 use lib.Dec.{ltb, eqb}
-use Rattle.node.specs.Rules.{linkOf}
+use Rattle.node.specs.Rules.{linkOf, generator}
 use Rattle.headers.specs.declared.alias.Alias.{Alias}
 use Rattle.headers.specs.declared.frame.Frame.{Frame}
 use Rattle.node.specs.declared.Node.{Node}
@@ -54,7 +54,7 @@ abbrev pub aliasFrom : ℕ → Alias
 aliasFrom w = record { 0 = w % 2 ^ 16 }
 
 abbrev pub phaseIn : ℕ → Phase
-phaseIn w = phaseAt (w / 2 ^ 24 % 2 ^ 19)
+phaseIn w = phaseAt (w / 2 ^ 25 % 2 ^ 19)
 
 abbrev pub replyIn : ℕ → Bool
 replyIn w = eqb (w / 2 ^ 16 % 2) 1
@@ -78,6 +78,10 @@ waitingFrom w h = record {
 abbrev pub linkIn : ℕ → Link
 linkIn w = linkOf (w / 2 ^ 22 % 4)
 
+-- A.9: whether the first alias is past
+abbrev pub pastIn : ℕ → Bool
+pastIn w = eqb (w / 2 ^ 24 % 2) 1
+
 -- How many words hold a node, and the node that they hold, by the number of each.
 abbrev pub nodeWords : ℕ
 nodeWords = 5
@@ -85,16 +89,17 @@ nodeWords = 5
 abbrev pub nodeFrom : (ℕ → ℕ) → Node
 nodeFrom w = record {
   own = record { id = w 0; link = linkIn (w 2) };
-  generator = w 1;
+  generator = generator (w 1) (pastIn (w 2));
   alias = aliasFrom (w 2);
   phase = phaseIn (w 2);
   waiting = waitingFrom (w 2) (hostAt (w 3) (w 4));
 }
 
--- A word that says a node's link state, alias, phase and what waits at it but the host frame.
+-- A word that says a node's link state, alias, whether its first alias is past, its phase and what waits at it but the host frame.
 pub record StateOf (n : Node) (w : ℕ) : Type 0 where
   pub link : linkIn w ≡ n .own .link
   pub alias : aliasFrom w ≡ n .alias
+  pub past : pastIn w ≡ n .generator .past
   pub phase : phaseIn w ≡ n .phase
   pub waiting : waitingFrom w (n .waiting .host) ≡ n .waiting
 
@@ -102,6 +107,7 @@ pub record StateOf (n : Node) (w : ℕ) : Type 0 where
 pub record Rephased (w : ℕ) (p : Phase) (r : ℕ) : Type 0 where
   pub link : linkIn r ≡ linkIn w
   pub alias : aliasFrom r ≡ aliasFrom w
+  pub past : pastIn r ≡ pastIn w
   pub phase : phaseIn r ≡ p
   pub waiting : (h : Host) → waitingFrom r h ≡ waitingFrom w h
 

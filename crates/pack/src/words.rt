@@ -12,7 +12,7 @@ use state::Waiting;
 ghost use mathlib.Core.Path.{_≡_};
 ghost use Prim.Native.Nat.{_%_, _^_, _<_};
 ghost use lib.Dec.{eqb};
-ghost use Rattle.pack.specs.Words.{frameFrom, aliasFrom, linkIn, phaseAt, phaseIn, replyIn, errorFrom, waitingFrom, hostAt, hostBytes, StateOf, Rephased, round, stampIn};
+ghost use Rattle.pack.specs.Words.{frameFrom, aliasFrom, linkIn, pastIn, phaseAt, phaseIn, replyIn, errorFrom, waitingFrom, hostAt, hostBytes, StateOf, Rephased, round, stampIn};
 ghost use Rattle.node.specs.Rules.{isOff};
 
 fn wide8(x: u8) -> u64
@@ -204,7 +204,7 @@ pub fn host_at(w: u64, bytes: u64) -> Host
     Host::Enquiry { len, bytes }
 }
 
-// A node's alias, what waits at it but the host frame, its link state and its phase.
+// A node's alias, what waits at it but the host frame, its link state, whether its first alias is past (A.9) and its phase.
 pub fn state_word(n: Node) -> u64
     ensures { λ r. ⌜ StateOf n r ⌝ }
 {
@@ -219,9 +219,18 @@ pub fn state_word(n: Node) -> u64
     let own = n.own;
     let link = own.link;
     let l = wide8(link.number());
+    let generator = n.generator;
+    let f = bit(generator.past);
     let phase = n.phase;
     let p = phase_word(phase);
-    a + 0x1_0000 * r + 0x2_0000 * m + 0x4_0000 * o + 0x8_0000 * e + 0x40_0000 * l + 0x100_0000 * p
+    a
+        + 0x1_0000 * r
+        + 0x2_0000 * m
+        + 0x4_0000 * o
+        + 0x8_0000 * e
+        + 0x40_0000 * l
+        + 0x100_0000 * f
+        + 0x200_0000 * p
 }
 
 // That word with another phase.
@@ -229,7 +238,7 @@ pub fn with_phase(w: u64, phase: Phase) -> u64
     ensures { λ r. ⌜ Rephased w phase r ⌝ }
 {
     let p = phase_word(phase);
-    w % 0x100_0000 + 0x100_0000 * p
+    w % 0x200_0000 + 0x200_0000 * p
 }
 
 pub fn alias_in(w: u64) -> Alias
@@ -244,16 +253,22 @@ pub fn link_in(w: u64) -> Link
     Link::of((w / 0x40_0000 % 4) as u8)
 }
 
+pub fn past_in(w: u64) -> bool
+    ensures { λ r. ⌜ r ≡ pastIn w ⌝ }
+{
+    flag(w / 0x100_0000 % 2)
+}
+
 pub fn phase_in(w: u64) -> Phase
     ensures { λ r. ⌜ r ≡ phaseIn w ⌝ }
 {
-    phase_at(w / 0x100_0000 % 0x8_0000)
+    phase_at(w / 0x200_0000 % 0x8_0000)
 }
 
 pub fn is_off_in(w: u64) -> bool
     ensures { λ r. ⌜ r ≡ isOff (phaseIn w) ⌝ }
 {
-    w / 0x100_0000 % 8 < 1
+    w / 0x200_0000 % 8 < 1
 }
 
 pub fn waiting_in(w: u64, host: Host) -> Waiting

@@ -1,7 +1,8 @@
--- Document 01's script and its whole output, of the rules; and a line of each kind that the script does not meet.
+-- Document 01's script and its whole output, of the rules; a line of each kind that the script does not meet; and A.9's command.
 use mathlib.Core.Path.{_≡_, refl}
 use mathlib.Core.List.{List, [], _∷_}
 use Prim.Native.Nat.{ℕ}
+use lib.ListN.{take}
 use Rattle.text.specs.Rules.{digit, hex, decimalUpTo}
 use Rattle.headers.specs.Rules.{kindIn, mixed}
 use Rattle.node.specs.Rules.{
@@ -21,6 +22,7 @@ use Rattle.node.specs.Rules.{
   sentOf,
   failedOf,
   onPowerOn,
+  onWarmOn,
   onLeave,
   accepted,
   refused,
@@ -30,6 +32,7 @@ use Rattle.segment_rules.specs.Rules.{someOther, old, kept}
 use Rattle.script.specs.Rules.{
   number,
   form,
+  refusal,
   readOf,
   onward,
   readUpTo,
@@ -83,3 +86,30 @@ pub report-line : line 7 0x02 (accepted (left (reportFrame 0x263)))
     ∷ 48 ∷ 49 ∷ 48 ∷ 49 ∷ 48 ∷ 48 ∷ 48 ∷ 48 ∷ 48 ∷ 48 ∷ 48 ∷ 48 ∷ 48 ∷ 50 ∷ 48 ∷ 49 ∷ 10 ∷ []
 unfolding reportFrame digit hex decimalUpTo dataText answerText line
 report-line = refl
+
+-- A.9: 0A 03 05 01 01 01 01 01 01 22 0F A6 7D 4E AA, a send, and 0B, which stays unknown
+pub warm-script : List ℕ
+warm-script =
+    0x0A ∷ 0x03 ∷ 0x05 ∷ 0x01 ∷ 0x01 ∷ 0x01 ∷ 0x01 ∷ 0x01 ∷ 0x01 ∷ 0x22 ∷ 0x0F ∷ 0xA6 ∷ 0x7D ∷ 0x4E ∷ 0xAA
+    ∷ 0x02 ∷ 0x03 ∷ 0x0B ∷ []
+
+-- 1 0A ok
+-- 2 02 ok 170504F8
+-- 3 0B refused 10
+-- kept
+pub warm-text : List ℕ
+warm-text =
+    49 ∷ 32 ∷ 48 ∷ 65 ∷ 32 ∷ 111 ∷ 107 ∷ 10
+    ∷ 50 ∷ 32 ∷ 48 ∷ 50 ∷ 32 ∷ 111 ∷ 107 ∷ 32 ∷ 49 ∷ 55 ∷ 48 ∷ 53 ∷ 48 ∷ 52 ∷ 70 ∷ 56 ∷ 10
+    ∷ 51 ∷ 32 ∷ 48 ∷ 66 ∷ 32 ∷ 114 ∷ 101 ∷ 102 ∷ 117 ∷ 115 ∷ 101 ∷ 100 ∷ 32 ∷ 49 ∷ 48 ∷ 10
+    ∷ 107 ∷ 101 ∷ 112 ∷ 116 ∷ 10
+    ∷ []
+
+pub warm-example : output warm-script ≡ warm-text
+unfolding warm-script warm-text number form readOf onward readUpTo listed digit hex decimalUpTo dataText answerText line lines lastLine outputOf output someOther old kept offNode fresh counted cidFrame dueOf sentOf onWarmOn onLeave kindIn mixed
+warm-example = refl
+
+-- without its last operand byte: 1 0A refused 11
+pub warm-cut-short : readOf (take 14 warm-script) ≡ refusal 0x0A 11
+unfolding warm-script number form readOf
+warm-cut-short = refl

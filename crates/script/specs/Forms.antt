@@ -8,7 +8,7 @@ use native.Mathlib.Nat.{add-zero, add-suc, add-assoc, mul-assoc, pow-zero, pow-s
 use borrow.Author.Tests.{lt-leb, le-leb, ne-eqb, eqb-true}
 use lib.Dec.{leb, eqb}
 use lib.ListN.{length, getD}
-use Rattle.segment_rules.specs.Rules.{Command, tick, release}
+use Rattle.segment_rules.specs.Rules.{Command, tick, warmOn}
 use Rattle.script.specs.Rules.{number, Form, operand, makes, unknown, form, Found, command, refusal, nothing, found, readOf}
 
 -- NUMBERS
@@ -55,17 +55,18 @@ pub record Whole (byte : ℕ) (s : List ℕ) : Type 0 where
 pub at-key : (k : ℕ) (s : List ℕ) {b : ℕ} → b ≡ k → Whole b s → ends (form k) 1 s ≤ length s
 at-key k s {b} e h = subst (λ (x : ℕ). ends (form x) 1 s ≤ length s) e (h .is .1)
 
-last : (b : ℕ) (s : List ℕ) (t : Bool) → eqb b 9 ≡ t → Holds (ends (cond t (operand 1 λ index. makes (release index)) unknown) 1 s) (length s) → b ≡ 9
-last b s true e h = eqb-true b 9 e
+last : (b : ℕ) (s : List ℕ) (t : Bool) → eqb b 10 ≡ t
+    → Holds (ends (cond t (operand 1 λ index. operand 6 λ id. operand 1 λ flag. operand 6 λ state. makes (warmOn index id flag state)) unknown) 1 s) (length s) → b ≡ 10
+last b s true e h = eqb-true b 10 e
 last b s false e h = absurd (omega arith)
 
 -- The last of them, by not being one of the others.
 pub at-rest : (s : List ℕ) {b : ℕ} → (b ≡ 1 → ⊥) → (b ≡ 2 → ⊥) → (b ≡ 3 → ⊥) → (b ≡ 4 → ⊥) → (b ≡ 5 → ⊥) → (b ≡ 6 → ⊥) → (b ≡ 7 → ⊥) → (b ≡ 8 → ⊥)
-    → Whole b s → b ≡ 9
+    → (b ≡ 9 → ⊥) → Whole b s → b ≡ 10
 unfolding form
-at-rest s {b} n1 n2 n3 n4 n5 n6 n7 n8 h =
-    last b s (eqb b 9) refl
-    (simp (ne-eqb b 1 n1, ne-eqb b 2 n2, ne-eqb b 3 n3, ne-eqb b 4 n4, ne-eqb b 5 n5, ne-eqb b 6 n6, ne-eqb b 7 n7, ne-eqb b 8 n8) at (h .is))
+at-rest s {b} n1 n2 n3 n4 n5 n6 n7 n8 n9 h =
+    last b s (eqb b 10) refl
+    (simp (ne-eqb b 1 n1, ne-eqb b 2 n2, ne-eqb b 3 n3, ne-eqb b 4 n4, ne-eqb b 5 n5, ne-eqb b 6 n6, ne-eqb b 7 n7, ne-eqb b 8 n8, ne-eqb b 9 n9) at (h .is))
 
 -- READING
 

@@ -1,15 +1,15 @@
 -- How long an output can be: a script of 65,536 bytes has at most as many lines of 38 bytes, and a last one of 5.
 use mathlib.Core.Path.{_≡_, subst, subst⁻¹}
 use Prim.Native.Nat.{ℕ, zero, suc, _+_, _*_, _≤_, _<_}
-use mathlib.Core.Bool.{Bool}
+use mathlib.Core.Bool.{Bool, true, false, _&&_}
 use mathlib.Core.List.{List}
 use native.Mathlib.Omega.{arith}
-use lib.Dec.{leb}
+use lib.Dec.{leb, eqb}
 use lib.ListN.{length, drop, length-append, length-take, length-drop}
 use Rattle.text.specs.Rules.{Printed, PrintedWhole}
 use Rattle.text.specs.Sheet.{whole}
 use Rattle.node.specs.Rules as N
-use Rattle.node.specs.Rules.{Answer, accepted, refused, refuse, Value, done, wait, isOff, malformed, onLeave}
+use Rattle.node.specs.Rules.{Answer, accepted, refused, refuse, Value, done, wait, isOff, malformed, onLeave, readOutOf}
 use Rattle.node.specs.Refusals.{TwoDigits, two-refuse, two-digits}
 use Rattle.segment_rules.specs.Rules.{
   places,
@@ -27,12 +27,15 @@ use Rattle.segment_rules.specs.Rules.{
   tick,
   foreign,
   choose,
+  readOut,
   someOther,
   isFull,
   isEmpty,
   thenRefuse,
+  thenInUse,
   answerAt,
   idInUse,
+  whether,
   answer,
   step,
 }
@@ -64,6 +67,10 @@ two-then : (a : Answer Value) (b : Bool) (k : ℕ) → k < 100 → TwoDigits a �
 two-then (accepted v) b k h t = two-refuse b k (accepted v) h tt
 two-then (refused n) b k h t = t
 
+two-in-use : (a : Answer Value) (b : Bool) → TwoDigits a → TwoDigits (thenInUse a b)
+two-in-use (accepted v) b t = two-refuse b 15 (accepted v) (omega arith) tt
+two-in-use (refused n) b t = two-refuse (b && eqb n 18) 15 (refused n) (omega arith) t
+
 two-at : (p : Place) (x : Act) → TwoDigits (answerAt p x)
 two-at p (orders x) = two-digits wait (p .node) (N.order x)
 two-at p delivers =
@@ -71,15 +78,22 @@ two-at p delivers =
     (two-refuse (isEmpty (p .inbox)) 6 (accepted done) (omega arith) tt)
 
 two-answer : (S : Segment) (c : Command) → TwoDigits (answer S c)
+unfolding readOutOf
 two-answer S (one n x) =
-    two-refuse (leb places n) 1 (thenRefuse (answerAt (S .at n) x) (idInUse S n x) 15) (omega arith)
-    (two-then (answerAt (S .at n) x) (idInUse S n x) 15 (omega arith) (two-at (S .at n) x))
+    two-refuse (leb places n) 1 (thenInUse (answerAt (S .at n) x) (idInUse S n x)) (omega arith)
+    (two-in-use (answerAt (S .at n) x) (idInUse S n x) (two-at (S .at n) x))
 two-answer S (send n) =
     let a = onLeave wait (S .at n .node) .answer in
     let b = someOther isFull n places S in
     two-refuse (leb places n) 1 (thenRefuse a b 5) (omega arith) (two-then a b 5 (omega arith) (two-digits wait (S .at n .node) N.leave))
 two-answer S tick = tt
 two-answer S choose = tt
+two-answer S (readOut n) = go (leb places n) (isOff (S .at n .node .phase))
+  where
+    go : (b off : Bool) → TwoDigits (whether (refuse b 1 (refuse off 2 (accepted (S .at n .node .generator)))))
+    go true off = omega arith
+    go false true = omega arith
+    go false false = tt
 two-answer S (foreign f) =
     two-refuse (malformed f) 9 (refuse (someOther isFull places places S) 5 (accepted done)) (omega arith)
     (two-refuse (someOther isFull places places S) 5 (accepted done) (omega arith) tt)

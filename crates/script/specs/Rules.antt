@@ -23,6 +23,7 @@ use Rattle.segment_rules.specs.Rules.{
   message,
   enquiry,
   release,
+  warmOn,
   answer,
   step,
   isKept,
@@ -44,7 +45,7 @@ pub data Form : Type 0 where
 abbrev pub frame : (kind header len bytes : ℕ) → Frame
 frame kind header len bytes = record { kind = kind; header = header; len = len; bytes = bytes }
 
--- The commands by their bytes, with their operands as document 01 lists them.
+-- The commands by their bytes, with their operands as document 01 lists them, and A.9 that of 0A.
 unfoldable pub form : (byte : ℕ) → Form
 form b =
     cond (eqb b 0x01) (operand 1 λ index. operand 6 λ id. makes (powerOn index id))
@@ -56,7 +57,8 @@ form b =
     (cond (eqb b 0x07) (operand 1 λ index. operand 2 λ field. operand 1 λ len. operand 8 λ bytes. makes (message index field len bytes))
     (cond (eqb b 0x08) (operand 1 λ index. operand 1 λ len. operand 6 λ id. makes (enquiry index len (packed (idBytes id))))
     (cond (eqb b 0x09) (operand 1 λ index. makes (release index))
-    unknown))))))))
+    (cond (eqb b 0x0A) (operand 1 λ index. operand 6 λ id. operand 1 λ flag. operand 6 λ state. makes (warmOn index id flag state))
+    unknown)))))))))
 
 -- What stands at the head of the rest of a script: a command with its byte and the bytes that it takes, or a refusal.
 pub data Found : Type 0 where

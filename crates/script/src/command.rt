@@ -30,6 +30,12 @@ pub enum Command {
         id: u64,
     },
     Release(u8),
+    WarmOn {
+        index: u8,
+        id: u64,
+        flag: u8,
+        state: u64,
+    },
 }
 
 // What stands at the head of the rest of a script.
@@ -114,6 +120,7 @@ fn size_of(byte: u8) -> usize
         7 => 13,
         8 => 9,
         9 => 2,
+        10 => 15,
         _ => 0,
     }
 }
@@ -149,7 +156,13 @@ fn command_of(byte: u8, s: &[u8]) -> Command
             len: s[2],
             id: six(s, 3),
         },
-        _ => Command::Release(s[1]),
+        9 => Command::Release(s[1]),
+        _ => Command::WarmOn {
+            index: s[1],
+            id: six(s, 2),
+            flag: s[8],
+            state: six(s, 9),
+        },
     }
 }
 

@@ -46,6 +46,12 @@ fn carry_out(table: &mut [u64; WORDS], command: Command) -> Answer
             commands::enquiry(&mut *table, index as usize, len, bytes)
         }
         Command::Release(index) => commands::release(&mut *table, index as usize),
+        Command::WarmOn {
+            index,
+            id,
+            flag,
+            state,
+        } => commands::warm_on(&mut *table, index as usize, id, flag, state),
     }
 }
 

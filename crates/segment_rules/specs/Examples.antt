@@ -26,6 +26,7 @@ use Rattle.node.specs.Rules.{
   withError,
   withHost,
   offNode,
+  generator,
   fresh,
   restart,
   moved,
@@ -61,6 +62,8 @@ use Rattle.node.specs.Rules.{
   onRelease,
   linkTold,
   onLink,
+  onWarmOn,
+  readOutOf,
 }
 use Rattle.headers.specs.declared.frame.Frame.{Frame}
 use Rattle.node.specs.declared.Node.{Node}
@@ -86,6 +89,7 @@ use Rattle.segment_rules.specs.Rules.{
   tick,
   foreign,
   choose,
+  readOut,
   powerOn,
   fail,
   deliver,
@@ -93,6 +97,7 @@ use Rattle.segment_rules.specs.Rules.{
   enquiry,
   release,
   link,
+  warmOn,
   names,
   nobody,
   firstDue,
@@ -101,6 +106,7 @@ use Rattle.segment_rules.specs.Rules.{
   Besides,
   plain,
   chose,
+  gave,
   step,
   run,
   answers,
@@ -162,7 +168,7 @@ AllOf (es ∷ rest) = All es × AllOf rest
 
 -- the node with Node ID 050101010101 and its first alias, 263, in a state, nothing waiting
 abbrev pub inState : Phase → Node
-inState p = moved (fresh 0x050101010101 (record { 0 = 0x263 })) p
+inState p = moved (fresh 0x050101010101 (record { 0 = 0x263 }) (generator 0x050101010101 false)) p
 
 abbrev pub testing : Node
 testing = inState (Testing 0 0)
@@ -213,7 +219,7 @@ abbrev pub beside : Node → Node
 beside n = record {
   own = record { id = 0x050101011100; link = n .own .link };
   alias = n .alias;
-  generator = 0x050101011100;
+  generator = generator 0x050101011100 false;
   phase = n .phase;
   waiting = n .waiting;
 }
@@ -539,7 +545,7 @@ ofNodeIds =
     ∷ says (alone 3 permitted []) (foreign (withId 0x10701111 0x050101010101)) (accepted done)
     -- tested after 1 and 3
     ∷ says (alone 3 testing []) (powerOn 24 0x050101010101) (refused 1)
-    ∷ says (alone 3 (fresh 0 (record { 0 = 1 })) []) (powerOn 4 0) (refused 3)
+    ∷ says (alone 3 (fresh 0 (record { 0 = 1 }) (generator 0 false)) []) (powerOn 4 0) (refused 3)
     -- a power-on that is refused leaves node, inbox and ages as they were
     ∷ makes (two 3 replying (frame1 ∷ []) 4 permitted []) (powerOn 3 0x050101011100) 3 replying (frame1 ∷ [])
     ∷ ageing (two 3 replying (frame1 ∷ []) 4 permitted []) (agesAt 3 (9 ∷ []) 7) (powerOn 3 0x050101011100 ∷ []) 3 (9 ∷ []) 7
@@ -629,11 +635,103 @@ ofChoices =
     ∷ chooses (two 0 hostWaiting [] 5 hostWaiting []) 23 (choose ∷ send 0 ∷ message 0 0x5B4 0 0 ∷ choose ∷ send 5 ∷ choose ∷ []) (named 0 ∷ plain ∷ plain ∷ named 5 ∷ plain ∷ named 0 ∷ []) 0
     ∷ []
 
+-- WARM POWER-ON (A.9)
+
+-- that node, started from a generator state under the alias that this stands for; and from the state that follows its Node ID
+abbrev pub startedFrom : (state alias : ℕ) → Node
+startedFrom x a = fresh 0x050101010101 (record { 0 = a }) (generator x true)
+
+abbrev pub warmed : Node
+warmed = startedFrom 0x220FA67D4EAA 0x4F8
+
+abbrev pub ofWarmStarts : List Example
+ofWarmStarts =
+    -- refusals are those of power-on in their order: 1; 3; 15, a flag above 1 and a state above 48 bits notwithstanding
+    says (alone 3 testing []) (warmOn 24 0x050101010101 2 0) (refused 1)
+    ∷ says start (warmOn 23 0 2 0) (refused 3)
+    ∷ says start (warmOn 3 0x1000000000000 1 0x1000000000000) (refused 3)
+    ∷ says (alone 3 (fresh 0 (record { 0 = 1 }) (generator 0 false)) []) (warmOn 4 0 1 0) (refused 3)
+    ∷ says (alone 0 testing []) (warmOn 3 0x050101010101 2 0) (refused 15)
+    ∷ says (alone 0 testing []) (warmOn 3 0x050101010101 1 0x1000000000000) (refused 15)
+    ∷ says (alone 23 (inState Silent) []) (warmOn 3 0x050101010101 0 0) (refused 15)
+    -- then 18: a flag above 1, be the state what it is; a state above 48 bits with flag 1
+    ∷ says start (warmOn 3 0x050101010101 2 0x220FA67D4EAA) (refused 18)
+    ∷ says start (warmOn 3 0x050101010101 255 0) (refused 18)
+    ∷ says start (warmOn 3 0x050101010101 1 0x1000000000000) (refused 18)
+    ∷ says (alone 3 permitted []) (warmOn 3 0x050101010101 2 0) (refused 18)
+    -- but not with 48 bits, nor with flag 0; and the index's own earlier Node ID does not count, nor one that is Off
+    ∷ says start (warmOn 3 0x050101010101 1 0xFFFFFFFFFFFF) (accepted done)
+    ∷ says start (warmOn 3 0x050101010101 0 0x1000000000000) (accepted done)
+    ∷ says (alone 3 permitted []) (warmOn 3 0x050101010101 1 0x220FA67D4EAA) (accepted done)
+    ∷ says (alone 0 (inState Off) []) (warmOn 3 0x050101010101 1 0x220FA67D4EAA) (accepted done)
+    -- the Node ID of a node that was started so is in use
+    ∷ says (alone 0 warmed []) (powerOn 3 0x050101010101) (refused 15)
+    -- flag 0 starts as document 01 says and ignores the state, whatever it is
+    ∷ makes start (warmOn 3 0x050101010101 0 0x220FA67D4EAA) 3 testing []
+    ∷ makes start (warmOn 3 0x050101010101 0 0x1000000000000) 3 testing []
+    ∷ makes (alone 3 warmed []) (warmOn 3 0x050101010101 0 0x220FA67D4EAA) 3 testing []
+    -- flag 1 makes the first tested alias the exclusive-or of the given state's four parts, without a step
+    ∷ makes start (warmOn 3 0x050101010101 1 0x220FA67D4EAA) 3 warmed []
+    ∷ makes start (warmOn 3 0x050101010101 1 0x123000000000) 3 (startedFrom 0x123000000000 0x123) []
+    ∷ makes start (warmOn 3 0x050101010101 1 0x000000000FFF) 3 (startedFrom 0x000000000FFF 0xFFF) []
+    -- or 1 where that is 0
+    ∷ makes start (warmOn 3 0x050101010101 1 0) 3 (startedFrom 0 1) []
+    ∷ makes start (warmOn 3 0x050101010101 1 0xABCABCABCABC) 3 (startedFrom 0xABCABCABCABC 1) []
+    -- from any state, with an empty inbox, nothing waiting and the link Error Active; it concerns no other place
+    ∷ makes (alone 3 replying (frame1 ∷ [])) (warmOn 3 0x050101010101 1 0x220FA67D4EAA) 3 warmed []
+    ∷ makes (alone 3 (linked (inState Silent) ErrorPassive) (frame1 ∷ [])) (warmOn 3 0x050101010101 1 0x220FA67D4EAA) 3 warmed []
+    ∷ makes (two 3 permitted [] 4 permitted (frame1 ∷ [])) (warmOn 3 0x050101010101 1 0x220FA67D4EAA) 4 (beside permitted) (frame1 ∷ [])
+    -- a refused one leaves node, inbox and ages as they were
+    ∷ makes (two 3 replying (frame1 ∷ []) 4 permitted []) (warmOn 3 0x050101011100 1 0x220FA67D4EAA) 3 replying (frame1 ∷ [])
+    ∷ makes (alone 3 replying (frame1 ∷ [])) (warmOn 3 0x050101010101 2 0x220FA67D4EAA) 3 replying (frame1 ∷ [])
+    ∷ ageing (alone 3 replying (frame1 ∷ [])) (agesAt 3 (9 ∷ []) 7) (warmOn 3 0x050101010101 2 0x220FA67D4EAA ∷ []) 3 (9 ∷ []) 7
+    -- an accepted one ends all ages there, and no time passes
+    ∷ ageing (alone 3 replying (frame1 ∷ [])) (agesAt 3 (9 ∷ []) 7) (warmOn 3 0x050101010101 1 0x220FA67D4EAA ∷ []) 3 [] 0
+    ∷ ageing (two 3 permitted [] 4 replying (frame1 ∷ [])) (agesAt 4 (9 ∷ []) 7) (warmOn 3 0x050101010101 1 0x220FA67D4EAA ∷ []) 4 (9 ∷ []) 7
+    -- it still tests that alias in full: four CIDs, then none until the 201st tick; another frame with its alias makes it start again
+    ∷ lists (warmOn 3 0x050101010101 1 0x220FA67D4EAA ∷ send 3 ∷ send 3 ∷ send 3 ∷ send 3 ∷ send 3 ∷ []) (accepted done ∷ accepted (left (bare 0x170504F8)) ∷ accepted (left (bare 0x161014F8)) ∷ accepted (left (bare 0x150104F8)) ∷ accepted (left (bare 0x141014F8)) ∷ refused 4 ∷ []) 3 (counted warmed (Testing 4 0)) []
+    ∷ says (alone 3 (counted warmed (Testing 4 200)) []) (send 3) (refused 4)
+    ∷ says (alone 3 (counted warmed (Testing 4 201)) []) (send 3) (accepted (left (bare 0x107004F8)))
+    ∷ makes (alone 3 warmed (bare 0x195B44F8 ∷ [])) (deliver 3) 3 (startedFrom 0x5C694494EE53 0xB9F) []
+    -- the mark stays
+    ∷ chooses (two 3 testing [] 9 testing []) 5 (warmOn 3 0x050101010101 1 0x220FA67D4EAA ∷ choose ∷ []) (plain ∷ named 9 ∷ []) 9
+    -- READ-OUT: 1, 2; the generator state and whether the first alias is past, in every state but Off
+    ∷ says (alone 24 testing []) (readOut 24) (refused 1)
+    ∷ says start (readOut 3) (refused 2)
+    ∷ says (alone 3 testing []) (readOut 3) (accepted done)
+    ∷ chooses (alone 24 testing []) 7 (readOut 24 ∷ readOut 3 ∷ []) (plain ∷ plain ∷ []) 7
+    ∷ chooses (alone 3 testing []) 7 (readOut 3 ∷ []) (gave (generator 0x050101010101 false) ∷ []) 7
+    ∷ chooses (alone 3 (inState (Testing 4 7)) []) 7 (readOut 3 ∷ []) (gave (generator 0x050101010101 false) ∷ []) 7
+    ∷ chooses (alone 3 (inState Reserved) []) 7 (readOut 3 ∷ []) (gave (generator 0x050101010101 false) ∷ []) 7
+    ∷ chooses (alone 3 permitted []) 7 (readOut 3 ∷ []) (gave (generator 0x050101010101 false) ∷ []) 7
+    ∷ chooses (alone 3 leaving []) 7 (readOut 3 ∷ []) (gave (generator 0x050101010101 false) ∷ []) 7
+    ∷ chooses (alone 3 (inState Resting) []) 7 (readOut 3 ∷ []) (gave (generator 0x050101010101 false) ∷ []) 7
+    ∷ chooses (alone 3 (inState Silent) []) 7 (readOut 3 ∷ []) (gave (generator 0x050101010101 false) ∷ []) 7
+    -- of the node at its index
+    ∷ chooses (two 3 testing [] 9 warmed []) 7 (readOut 9 ∷ []) (gave (generator 0x050101011100 false) ∷ []) 7
+    -- past: the generator has stepped since power-on, whatever the cause of the restart
+    ∷ chooses start 23 (powerOn 3 0x050101010101 ∷ fail 3 ∷ readOut 3 ∷ []) (plain ∷ plain ∷ gave (generator 0x220FA67D4EAA true) ∷ []) 23
+    ∷ chooses (alone 3 (inState Reserved) (ownMessage ∷ [])) 7 (deliver 3 ∷ readOut 3 ∷ []) (plain ∷ gave (generator 0x220FA67D4EAA true) ∷ []) 7
+    ∷ chooses (alone 3 leaving []) 7 (readOut 3 ∷ send 3 ∷ readOut 3 ∷ []) (gave (generator 0x050101010101 false) ∷ plain ∷ gave (generator 0x220FA67D4EAA true) ∷ []) 7
+    ∷ chooses (alone 3 (restart testing) []) 7 (fail 3 ∷ readOut 3 ∷ []) (plain ∷ gave (generator 0x5C694494EE53 true) ∷ []) 7
+    -- or the power-on was warm, with the Node ID for a state too; not after a release, nor after a power-on that follows
+    ∷ chooses start 23 (warmOn 3 0x050101010101 1 0x220FA67D4EAA ∷ readOut 3 ∷ []) (plain ∷ gave (generator 0x220FA67D4EAA true) ∷ []) 23
+    ∷ chooses start 23 (warmOn 3 0x050101010101 1 0x050101010101 ∷ readOut 3 ∷ []) (plain ∷ gave (generator 0x050101010101 true) ∷ []) 23
+    ∷ chooses start 23 (warmOn 3 0x050101010101 0 0x220FA67D4EAA ∷ readOut 3 ∷ []) (plain ∷ gave (generator 0x050101010101 false) ∷ []) 23
+    ∷ chooses (alone 3 (inState (Leaving Release)) []) 7 (send 3 ∷ readOut 3 ∷ []) (plain ∷ gave (generator 0x050101010101 false) ∷ []) 7
+    ∷ chooses (alone 3 warmed []) 7 (powerOn 3 0x050101010101 ∷ readOut 3 ∷ []) (plain ∷ gave (generator 0x050101010101 false) ∷ []) 7
+    -- it changes nothing, and no time passes
+    ∷ makes (alone 3 replying (frame1 ∷ [])) (readOut 3) 3 replying (frame1 ∷ [])
+    ∷ ageing (alone 3 replying (frame1 ∷ [])) (agesAt 3 (9 ∷ []) 7) (readOut 3 ∷ []) 3 (9 ∷ []) 7
+    -- read out and given back at another index, after the node has gone from its own
+    ∷ lists (powerOn 3 0x050101010101 ∷ fail 3 ∷ readOut 3 ∷ powerOn 3 0x050101010102 ∷ warmOn 5 0x050101010101 1 0x220FA67D4EAA ∷ []) (accepted done ∷ accepted done ∷ accepted done ∷ accepted done ∷ accepted done ∷ []) 5 warmed []
+    ∷ []
+
 abbrev pub examples : List (List Example)
-examples = ofAnswers ∷ ofPlaces ∷ ofAges ∷ ofKept ∷ ofLooks ∷ ofLinks ∷ ofReports ∷ ofNodeIds ∷ ofChoices ∷ []
+examples = ofAnswers ∷ ofPlaces ∷ ofAges ∷ ofKept ∷ ofLooks ∷ ofLinks ∷ ofReports ∷ ofNodeIds ∷ ofChoices ∷ ofWarmStarts ∷ []
 
 pub examples-hold : AllOf examples
-unfolding firstDue someOther run answers aged old kept seen looks frameIn looksIn offNode fresh restart moved counted waits linked cidFrame ridFrame amdFrame amrFrame reportFrame errorFrame isOwn firstWaiting dueOf tickOf sentPermitted sentOf failedOf sameAlias addressed otherAlias received malformed used trimmed onPowerOn onLeave onFail hostOrders onMessage onEnquiry onRelease linkTold onLink kindIn mixed
+unfolding firstDue someOther run answers aged old kept seen looks frameIn looksIn offNode fresh restart moved counted waits linked cidFrame ridFrame amdFrame amrFrame reportFrame errorFrame isOwn firstWaiting dueOf tickOf sentPermitted sentOf failedOf sameAlias addressed otherAlias received malformed used trimmed onPowerOn onLeave onFail hostOrders onMessage onEnquiry onRelease linkTold onLink onWarmOn readOutOf kindIn mixed
 examples-hold = (
   (refl, (refl, (refl, (refl, (refl, (refl, (refl, (refl, (refl, (refl, (refl, (refl, (refl, (refl, (refl, (refl, (refl, (refl, (refl, (refl, (refl, (refl, (refl, (refl, (refl, (refl, (refl, (refl, (refl, (refl, (refl, (refl, tt)))))))))))))))))))))))))))))))),
   (
@@ -652,7 +750,10 @@ examples-hold = (
                 (refl, (refl, (refl, (refl, (refl, (refl, (refl, (refl, (refl, (refl, (refl, (refl, (refl, (refl, (refl, (refl, ((refl, refl), (refl, (refl, (refl, (refl, ((refl, refl), ((refl, refl), tt))))))))))))))))))))))),
                 (
                   ((refl, refl), ((refl, refl), ((refl, refl), ((refl, refl), ((refl, refl), ((refl, refl), ((refl, refl), ((refl, refl), ((refl, refl), ((refl, refl), ((refl, refl), ((refl, refl), ((refl, refl), ((refl, refl), ((refl, refl), ((refl, refl), ((refl, refl), ((refl, refl), ((refl, refl), ((refl, refl), ((refl, refl), ((refl, refl), ((refl, refl), ((refl, refl), ((refl, refl), ((refl, refl), ((refl, refl), ((refl, refl), ((refl, refl), ((refl, refl), ((refl, refl), ((refl, refl), ((refl, refl), ((refl, refl), ((refl, refl), ((refl, refl), (refl, (refl, (refl, (refl, (refl, ((refl, refl), (refl, ((refl, refl), ((refl, refl), ((refl, refl), ((refl, refl), ((refl, refl), ((refl, refl), ((refl, refl), ((refl, refl), ((refl, refl), ((refl, refl), ((refl, refl), tt)))))))))))))))))))))))))))))))))))))))))))))))))))))),
-                  tt,
+                  (
+                    (refl, (refl, (refl, (refl, (refl, (refl, (refl, (refl, (refl, (refl, (refl, (refl, (refl, (refl, (refl, (refl, (refl, (refl, (refl, (refl, (refl, (refl, (refl, (refl, (refl, (refl, (refl, (refl, (refl, ((refl, refl), ((refl, refl), ((refl, refl), ((refl, refl), (refl, (refl, (refl, ((refl, refl), (refl, (refl, (refl, ((refl, refl), ((refl, refl), ((refl, refl), ((refl, refl), ((refl, refl), ((refl, refl), ((refl, refl), ((refl, refl), ((refl, refl), ((refl, refl), ((refl, refl), ((refl, refl), ((refl, refl), ((refl, refl), ((refl, refl), ((refl, refl), ((refl, refl), ((refl, refl), (refl, ((refl, refl), ((refl, refl), tt))))))))))))))))))))))))))))))))))))))))))))))))))))))))))))),
+                    tt,
+                  ),
                 ),
               ),
             ),

@@ -8,3 +8,4 @@ pub mod Others
 pub mod Passed
 pub mod ListsBut28
 pub mod Turns
+pub mod WarmStarts

@@ -10,7 +10,7 @@ use lib.ListN.{length}
 use Rattle.headers.specs.Bit28.{But28, itself, malformed-but-28, trimmed-but-28}
 use Rattle.headers.specs.declared.frame.Frame.{Frame}
 use Rattle.node.specs.Rules as N
-use Rattle.node.specs.Rules.{Answer, accepted, refused, refuse, Value, done, left, wait, isOff, tickOf, isDue, dueOf, trimmed, onOrder, onLeave}
+use Rattle.node.specs.Rules.{Answer, accepted, refused, refuse, Value, done, left, wait, isOff, tickOf, isDue, dueOf, trimmed, onOrder, onLeave, readOutOf}
 use Rattle.node.specs.Bit28.{received-but-28}
 use Rattle.node.specs.declared.Node.{Node}
 use Rattle.segment_rules.specs.Rules.{
@@ -29,6 +29,7 @@ use Rattle.segment_rules.specs.Rules.{
   tick,
   foreign,
   choose,
+  readOut,
   names,
   after,
   firstDue,
@@ -39,11 +40,15 @@ use Rattle.segment_rules.specs.Rules.{
   isEmpty,
   hasId,
   thenRefuse,
+  thenInUse,
   indexed,
   answerAt,
   idInUse,
+  readOutAt,
+  whether,
   answer,
   chose,
+  given,
   besides,
   Effect,
   stays,
@@ -155,13 +160,17 @@ module _ (S T : Segment) (h : SegmentsBut28 S T) where
   full-but-28 : (i n : ℕ) → someOther isFull i n S ≡ someOther isFull i n T
   full-but-28 = other-but-28 isFull (λ k z. leb inboxRoom (length-but-28 (h .at k .inbox) z))
 
+  id-but-28 : (id i n : ℕ) → someOther (hasId id) i n S ≡ someOther (hasId id) i n T
+  id-but-28 id = other-but-28 (hasId id) (λ k z. hasId id (place (h .at k .node z) []))
+
   in-use-but-28 : (n : ℕ) (x : Act) → idInUse S n x ≡ idInUse T n x
-  in-use-but-28 n (orders (N.powerOn id)) = other-but-28 (hasId id) (λ k z. hasId id (place (h .at k .node z) [])) _ _
+  in-use-but-28 n (orders (N.powerOn id)) = id-but-28 id n places
   in-use-but-28 n (orders N.fail) = refl
   in-use-but-28 n (orders (N.message field len bytes)) = refl
   in-use-but-28 n (orders (N.enquiry len bytes)) = refl
   in-use-but-28 n (orders N.release) = refl
   in-use-but-28 n (orders (N.link state)) = refl
+  in-use-but-28 n (orders (N.warmOn id flag state)) = id-but-28 id n places
   in-use-but-28 n delivers = refl
 
   answered-at : (k : ℕ) (x : Act) → answerAt (S .at k) x ≡ answerAt (T .at k) x
@@ -173,12 +182,16 @@ module _ (S T : Segment) (h : SegmentsBut28 S T) where
   answered-foreign f g b =
       λ z. refuse (malformed-but-28 f g b z) 9 (refuse (full-but-28 places places z) 5 (accepted done))
 
+  read-out-but-28 : (n : ℕ) → readOutAt S n ≡ readOutAt T n
+  read-out-but-28 n = λ z. refuse (leb places n) 1 (readOutOf (h .at n .node z))
+
   answered : {c d : Command} → CommandsBut28 c d → answer S c ≡ answer T d
-  answered (same (one n x)) = λ z. indexed n (thenRefuse (answered-at n x z) (in-use-but-28 n x z) 15)
+  answered (same (one n x)) = λ z. indexed n (thenInUse (answered-at n x z) (in-use-but-28 n x z))
   answered (same (send n)) = λ z. indexed n (thenRefuse (onLeave wait (h .at n .node z) .answer) (full-but-28 n places z) 5)
   answered (same tick) = refl
   answered (same (foreign f)) = answered-foreign f f (itself f)
   answered (same choose) = refl
+  answered (same (readOut n)) = ap whether (read-out-but-28 n)
   answered (turned {f} {g} b) = answered-foreign f g b
 
   chosen : (n k : ℕ) → firstDue S n k ≡ firstDue T n k
@@ -195,6 +208,7 @@ module _ (S T : Segment) (h : SegmentsBut28 S T) where
   besides-but-28 (same tick) = refl
   besides-but-28 (same (foreign f)) = refl
   besides-but-28 (same choose) = ap chose same-choice
+  besides-but-28 (same (readOut n)) = ap given (read-out-but-28 n)
   besides-but-28 (turned b) = refl
 
   marked : {c d : Command} → CommandsBut28 c d → markAfter S c ≡ markAfter T d
@@ -203,6 +217,7 @@ module _ (S T : Segment) (h : SegmentsBut28 S T) where
   marked (same tick) = h .mark
   marked (same (foreign f)) = h .mark
   marked (same choose) = λ z. markBy (same-choice z) (h .mark z)
+  marked (same (readOut n)) = h .mark
   marked (turned b) = h .mark
 
   effect-at : (k : ℕ) (x : Act) → effectAt (S .at k) x ≡ effectAt (T .at k) x
@@ -218,6 +233,7 @@ module _ (S T : Segment) (h : SegmentsBut28 S T) where
   effect-of tick k = ap (λ (n : Node). becomes (tickOf wait n)) (h .at k .node)
   effect-of (foreign f) k = ap (λ (n : Node). cond (isOff (n .phase)) stays (gets (trimmed f))) (h .at k .node)
   effect-of choose k = refl
+  effect-of (readOut n) k = refl
 
   effects : {c d : Command} → CommandsBut28 c d → (k : ℕ) → EffectsBut28 (effect S c k) (effect T d k)
   effects (same c) k = subst (EffectsBut28 (effect S c k)) (effect-of c k) (same (effect S c k))

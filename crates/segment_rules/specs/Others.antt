@@ -1,4 +1,4 @@
--- Laws of a search among the other places: what it says of each of them.
+-- Laws of a search among the other places: what it says of each of them, and which orders ask for a Node ID.
 use mathlib.Core.Path.{_≡_, refl, sym, ap, subst, _∙_}
 use mathlib.Core.Logic.{_≢_}
 use mathlib.Core.Bool.{Bool, true, false, true≢false, not, _&&_, _||_, or-true}
@@ -7,7 +7,9 @@ use native.Mathlib.Omega.{arith}
 use native.Mathlib.Nat.{not-suc-le-zero}
 use lib.Dec.{eqb}
 use borrow.Author.Tests.{eqb-true, eqb-false, ne-eqb}
-use Rattle.segment_rules.specs.Rules.{Place, Segment, someOther}
+use Rattle.node.specs.Rules.{Order}
+use Rattle.node.specs.NodeId.{Starts, coldly, warmly}
+use Rattle.segment_rules.specs.Rules.{places, Place, Segment, orders, someOther, hasId, idInUse}
 
 module _ (Q : Place → Bool) (i : ℕ) (S : Segment) where
   -- one that is such is found
@@ -40,3 +42,8 @@ module _ (Q : Place → Bool) (i : ℕ) (S : Segment) where
       go : (b : Bool) → Q (S .at k) ≡ b → b ≡ false
       go true q = absurd (true≢false (sym (some-other n k h ne q) ∙ e))
       go false q = refl
+
+-- A power-on of either sort asks for its Node ID.
+pub starts-ask : (S : Segment) (n id : ℕ) (x : Order) → Starts id x → idInUse S n (orders x) ≡ someOther (hasId id) n places S
+starts-ask S n id x coldly = refl
+starts-ask S n id x warmly = refl

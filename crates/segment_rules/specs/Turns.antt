@@ -23,6 +23,7 @@ use Rattle.segment_rules.specs.Rules.{
   tick,
   foreign,
   choose,
+  readOut,
   powerOn,
   Choice,
   names,
@@ -37,6 +38,7 @@ use Rattle.segment_rules.specs.Rules.{
   Besides,
   plain,
   chose,
+  gave,
   besides,
   Told,
   markAfter,
@@ -53,6 +55,7 @@ isChoice (send n) = false
 isChoice tick = false
 isChoice (foreign f) = false
 isChoice choose = true
+isChoice (readOut n) = false
 
 unfoldable pub choices : List Command → ℕ
 choices [] = 0
@@ -68,6 +71,7 @@ abbrev pub isNamed : (k : ℕ) → Besides → Bool
 isNamed k plain = false
 isNamed k (chose (names j)) = eqb j k
 isNamed k (chose nobody) = false
+isNamed k (gave g) = false
 
 unfoldable pub namedIn : (k : ℕ) → List Told → Bool
 namedIn k [] = false
@@ -88,6 +92,7 @@ unmoved S (send n) e = refl
 unmoved S tick e = refl
 unmoved S (foreign f) e = refl
 unmoved S choose e = absurd (true≢false e)
+unmoved S (readOut n) e = refl
 
 mark-step : (S : Segment) (c : Command) → step S c .mark ≡ markAfter S c
 mark-step S c = go (answer S c) refl
@@ -98,6 +103,7 @@ mark-step S c = go (answer S c) refl
     kept tick number e = refl
     kept (foreign f) number e = refl
     kept choose number e = absurd (not-accepted number done (sym e))
+    kept (readOut n) number e = refl
 
     go : (a : Answer Value) → answer S c ≡ a → stepBy a S c .mark ≡ markAfter S c
     go (accepted v) e = refl
@@ -209,6 +215,7 @@ module _ (k : ℕ) (S : Segment) (d : ℕ) (hd : d < places) (at : k ≡ (after 
   moved tick due n l = inr (as-far tick refl n l)
   moved (foreign f) due n l = inr (as-far (foreign f) refl n l)
   moved choose due n l = nearer due n l
+  moved (readOut i) due n l = inr (as-far (readOut i) refl n l)
 
 named-soon : (k : ℕ) (cs : List Command) (S : Segment) (d : ℕ) → d < places → k ≡ (after (S .mark) + d) % places
     → d < choices cs → dueAtEach k S cs ≡ true → namedIn k (answers S cs) ≡ true

@@ -1,6 +1,7 @@
 -- The papers' numbers and values for each case of the code's enums.
 use Prim.Native.Nat.{ℕ}
-use mathlib.Core.Bool.{Bool, true, false}
+use mathlib.Core.Bool.{Bool, true, false, not}
+use lib.Dec.{eqb}
 use Rattle.state.specs.Rules.{Answer, accepted, refused, Due, nothing, next, Value, done, left}
 use Rattle.state.specs.declared.Refusal as R
 use Rattle.state.specs.declared.Answer as A
@@ -22,6 +23,7 @@ refusalAs R.the-variants.HostWaiting = 8
 refusalAs R.the-variants.Malformed = 9
 refusalAs R.the-variants.BadLinkState = 14
 refusalAs R.the-variants.NodeIdInUse = 15
+refusalAs R.the-variants.BadStart = 18
 
 abbrev pub answerAs : A.Answer → Answer Value
 answerAs A.the-variants.Accepted = accepted done
@@ -31,3 +33,8 @@ answerAs (A.the-variants.Refused r) = refused (refusalAs r)
 abbrev pub isRefused : Answer Value → Bool
 isRefused (accepted v) = false
 isRefused (refused number) = true
+
+-- A refusal that is tested before 15: any but 18, which is tested last (A.9).
+abbrev pub isBefore15 : Answer Value → Bool
+isBefore15 (accepted v) = false
+isBefore15 (refused number) = not (eqb number 18)

@@ -80,7 +80,7 @@ pub enum Concern {
     Amd,
 }
 
-// The refusals 1 to 9, 14 and 15, in the order of their numbers. A node alone gives those that need no segment.
+// The refusals 1 to 9, 14, 15 and 18, in the order of their numbers. A node alone gives those that need no segment.
 pub enum Refusal {
     BadIndex,
     Off,
@@ -93,6 +93,7 @@ pub enum Refusal {
     Malformed,
     BadLinkState,
     NodeIdInUse,
+    BadStart,
 }
 
 // What events answer: accepted, for a send with the frame that left, or one of these refusals.

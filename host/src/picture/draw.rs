@@ -14,6 +14,7 @@ use super::shared;
 use super::style::{class_of, is_dark, styles, DEFINITIONS};
 use super::svg::{number, Anchor, Svg};
 use super::turns;
+use super::warm;
 use crate::hex::dotted_id;
 use crate::summary::{totals, Collision};
 use crate::watch::{Late, Sender};
@@ -66,6 +67,7 @@ pub fn draw(record: &Record, name: &str, last: &str) -> String {
     page.late(&mut svg);
     page.aliases(&mut svg);
     page.collisions(&mut svg);
+    warm::draw(&mut svg, &page);
     page.links(&mut svg);
     shared::draw(&mut svg, &page);
     page.lines.iter().for_each(|line| line.label(&mut svg, &page));
@@ -143,6 +145,7 @@ impl Page<'_> {
     fn drawn_besides(&self) -> Signs {
         Signs {
             bit_28: self.record.frames.iter().any(|on_bus| on_bus.frame.has_bit_28_as_0()),
+            warm: !self.record.warm.is_empty(),
             links: !self.record.links.is_empty(),
             turns: !self.record.turns.is_empty(),
             lines: LineSort::all_of(self.lines.iter()),

@@ -7,6 +7,7 @@ use super::shared;
 use super::style::class_of;
 use super::svg::{Anchor, Svg};
 use super::turns;
+use super::warm;
 use crate::ages::KEPT;
 use crate::card::State;
 use crate::link::STATES;
@@ -18,6 +19,7 @@ const ROW: f64 = 20.0;
 pub struct Signs {
     /// Frames that came with bit 28 as 0.
     pub bit_28: bool,
+    pub warm: bool,
     pub links: bool,
     pub turns: bool,
     /// The sorts of lines of what was overdue.
@@ -31,8 +33,8 @@ impl Signs {
     }
 }
 
-/// Two rows: the states, then the other signs; one more where frames came with bit 28 as 0, one where link orders are drawn, one where
-/// turns are, and one where something was overdue. Gives how high they are.
+/// Two rows: the states, then the other signs; one more where frames came with bit 28 as 0, one where warm starts are drawn, one where
+/// link orders are, one where turns are, and one where something was overdue. Gives how high they are.
 pub fn draw(svg: &mut Svg, left: f64, top: f64, drawn: &Signs) -> f64 {
     let mut x = left;
     for state in &State::ALL[1..] {
@@ -52,6 +54,10 @@ pub fn draw(svg: &mut Svg, left: f64, top: f64, drawn: &Signs) -> f64 {
     if drawn.bit_28 {
         below += ROW;
         bit_28_sign(svg, left, top + 30.0 + below);
+    }
+    if drawn.warm {
+        below += ROW;
+        warm::meaning(svg, left, top + 30.0 + below);
     }
     if drawn.links {
         below += ROW;

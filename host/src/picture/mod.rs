@@ -12,6 +12,7 @@ mod shared;
 mod style;
 mod svg;
 mod turns;
+mod warm;
 
 pub use draw::draw;
 pub use record::Record;

@@ -1,13 +1,13 @@
-//! What a run gives to draw: the steps at which something was to be seen, bands, frames, collisions, restarts, link orders, turns,
-//! what stood or waited too long, and aliases that two nodes came to use.
+//! What a run gives to draw: the steps at which something was to be seen, bands, frames, collisions, restarts, warm starts, link
+//! orders, turns, what stood or waited too long, and aliases that two nodes came to use.
 
 use crate::card::{Seen, State, PLACES};
-use crate::command::Command;
 use crate::frame::Frame;
 use crate::shared::Shared;
 use crate::summary::Collision;
 use crate::told::Told;
 use crate::turn::Choice;
+use crate::warm::WarmStart;
 use crate::watch::{Aged, Late, Moment, Sender};
 
 /// A command that is drawn, after how many ticks, and how much room it takes beside a frame on the bus. Its count names it.
@@ -71,6 +71,7 @@ pub struct Record {
     pub collisions: Vec<(usize, Collision)>,
     /// Starts with the next alias that no delivered frame caused.
     pub restarts: Vec<(usize, usize)>,
+    pub warm: Vec<WarmStart>,
     pub links: Vec<Told>,
     pub turns: Vec<Turn>,
     /// Of each node, in the order in which they came.
@@ -106,6 +107,7 @@ impl Record {
             self.collisions.push((count, collision));
         }
         self.shared.extend(Shared::of(moment));
+        self.warm.extend(WarmStart::of(moment));
         self.links.extend(told);
         self.turns.extend(turn);
         self.late = self.late.or(moment.late);
@@ -166,9 +168,9 @@ fn is_new_band(moment: &Moment, index: usize) -> bool {
 
 /// Exhibits on one breaker come on together, so a power-on takes little room.
 fn weight(moment: &Moment) -> f64 {
-    match moment.command() {
-        Some(Command::On { .. }) => 0.3,
-        _ if moment.link().is_some() || moment.has_bit_28_as_0() => WIDE,
-        _ => 1.0,
+    match moment.command().and_then(|command| command.powers_on()) {
+        Some(_) => 0.3,
+        None if moment.link().is_some() || moment.has_bit_28_as_0() => WIDE,
+        None => 1.0,
     }
 }

@@ -25,6 +25,7 @@ pub fn is_dark(state: State) -> bool {
 pub fn styles(drawn: &Signs) -> String {
     let parts = [
         (drawn.bit_28, BIT_28),
+        (drawn.warm, WARM),
         (drawn.links, LINK),
         (drawn.turns, TURN),
         (drawn.overdue(), OVERDUE),
@@ -37,6 +38,13 @@ pub fn styles(drawn: &Signs) -> String {
 const BIT_28: &str = r##"<style>
 .bit28 { fill: #00b4d0; stroke: #222; stroke-width: 1; }
 .bit28-hit { fill: #00b4d0; stroke: #c00020; stroke-width: 1.4; }
+</style>
+"##;
+
+/// White on black; the other signs with a letter are black on white.
+const WARM: &str = r##"<style>
+.warm { fill: #111; stroke: #fff; stroke-width: 0.8; }
+.warm-text { font-size: 8px; font-weight: bold; fill: #fff; }
 </style>
 "##;
 

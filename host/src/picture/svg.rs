@@ -74,6 +74,14 @@ impl Svg {
         self.body += &format!("<circle cx=\"{x}\" cy=\"{y}\" r=\"{radius}\" class=\"{class}\"/>\n");
     }
 
+    /// A circle that says more where the pointer rests on it.
+    pub fn circle_with(&mut self, x: f64, y: f64, radius: f64, class: &str, title: &str) {
+        let ([x, y, radius], title) = ([x, y, radius].map(number), escaped(title));
+        self.body += &format!(
+            "<circle cx=\"{x}\" cy=\"{y}\" r=\"{radius}\" class=\"{class}\"><title>{title}</title></circle>\n"
+        );
+    }
+
     pub fn text(&mut self, x: f64, y: f64, class: &str, anchor: Anchor, text: &str) {
         let anchor = match anchor {
             Anchor::Start => "",

@@ -172,7 +172,9 @@ fn script_of(random: &mut Random, line: impl Fn(&mut Random) -> String) -> Strin
         text += random.pick(&[
             "bytes FF 01 02\n",
             "bytes 01 00\nbytes 05.01\n",
+            "bytes 0B",
             "bytes 0A",
+            "bytes 0A 00 05 01 01 01 01 01 01 00 00 00 00 00\n",
             "bytes 06\n",
         ]);
     }
@@ -182,6 +184,7 @@ fn script_of(random: &mut Random, line: impl Fn(&mut Random) -> String) -> Strin
 fn line(random: &mut Random) -> String {
     let index = index(random);
     match random.below(13) {
+        0 if random.one_in(2) => warm(random),
         0 | 1 => format!("on {index} {}", id(random)),
         2 | 3 => format!("send {}", random.pick(&["0", "1", "2", "all", "ALL", "23", "24"])),
         4 | 5 => format!("deliver {}", random.pick(&["0", "1", "2", "all", "3", "255"])),
@@ -294,6 +297,48 @@ fn text(random: &mut Random) -> String {
         random.pick(&["17050263", "00700263", "195B4262", "10702fff", "1FFFFFFF", "00000000"]);
     let data = random.pick(&["", "01", "0102", "abCD", "050101010101", "0101000000000201"]);
     format!(":X{header}N{data};")
+}
+
+/// A power-on by command 0A, accepted or refused.
+pub fn warm(random: &mut Random) -> String {
+    format!("warm {} {} {}", index(random), id(random), state(random))
+}
+
+/// A state and a flag, most often 1: those of the Node IDs above after steps of their generators, such as bring alias 1, and others.
+fn state(random: &mut Random) -> String {
+    let states = [
+        "220FA69D5AA8",
+        "220FA67D48AA",
+        "050101010101",
+        "0501010110ff",
+        "0",
+        "FFFFFFFFFFFF",
+        "262",
+        "1001",
+        "000000000263",
+        "80000000000",
+    ];
+    let flags = ["", "", "", "", " flag 1", " flag 0", " Flag 0", " flag 2", " flag 255"];
+    format!("{}{}", random.pick(&states), random.pick(&flags))
+}
+
+/// Nodes that come up, most of them warm, and meet frames with the aliases that they test.
+pub fn by_warm_starts(seed: u64) -> String {
+    let random = &mut Random::new(seed);
+    let mut text = String::new();
+    for _ in 0..30 {
+        text += &match random.below(8) {
+            0..=2 => warm(random),
+            3 => format!("on {} {}", index(random), id(random)),
+            4 => format!("foreign RID {}\ndeliver all", random.pick(&["262", "263", "EFB", "1"])),
+            5 => format!("fail {}", random.below(4)),
+            6 => format!("settle {}", 1 + random.below(5)),
+            _ if random.one_in(2) => "settle 206".into(),
+            _ => format!("release {}\nsend all", random.below(4)),
+        };
+        text += "\n";
+    }
+    text
 }
 
 /// A line of a viewer's log.

@@ -27,6 +27,11 @@ impl Shown {
     }
 }
 
+/// A summary, and the lines at its end by which the nodes come back, where there are some.
+pub fn parted(summary: &str) -> (&str, &str) {
+    summary.split_at(summary.find("To come back under these aliases").unwrap_or(summary.len()))
+}
+
 /// What a script by name shows, without colours.
 pub fn shown(text: &str) -> Shown {
     shown_of(&expanded(text), Paint(false))

@@ -120,6 +120,15 @@ impl Card {
         unsafe { card_choose(self.table(), chosen.as_mut_ptr()) }
     }
 
+    /// Generator state, 1 where the first alias is past.
+    pub fn read_out(&self, index: usize, out: &mut [u64; 2]) -> u64 {
+        unsafe { card_read_out(self.words().as_ptr(), index, out.as_mut_ptr()) }
+    }
+
+    pub fn warm_on(&mut self, index: usize, id: u64, flag: u8, state: u64) -> u64 {
+        unsafe { card_warm_on(self.table(), index, id, flag, state) }
+    }
+
     pub fn look(&self, index: usize, seen: &mut [u64; 12]) -> u64 {
         unsafe { card_look(self.words().as_ptr(), index, seen.as_mut_ptr()) }
     }

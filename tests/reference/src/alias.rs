@@ -1,4 +1,5 @@
-//! Aliases: the first one of a Node ID and the generator of the ones after it.
+//! Aliases: the first one of a Node ID, the generator of the ones after it, and the one that a state of
+//! the generator stands for.
 
 use crate::refusal::Refusal;
 
@@ -37,7 +38,13 @@ pub(crate) fn first(id: u64) -> Alias {
 
 pub(crate) fn next(state: u64) -> (Alias, u64) {
     let state = FACTOR.wrapping_mul(state).wrapping_add(STEP) & MAX_48;
+    (drawn(state), state)
+}
+
+/// The alias that a state stands for, without a step: the exclusive-or of its four parts, or 1 where
+/// that is 0.
+pub(crate) fn drawn(state: u64) -> Alias {
     let parts = state ^ state >> 12 ^ state >> 24 ^ state >> 36;
     let alias = (parts & 0xFFF) as u16;
-    (Alias(if alias == 0 { 1 } else { alias }), state)
+    Alias(if alias == 0 { 1 } else { alias })
 }

@@ -1,16 +1,18 @@
-//! The commands of a list: nine that are read from and written to the bytes of a script, and the
-//! link order and the choice, which no script can carry.
+//! The commands of a list: ten that are read from and written to the bytes of a script, and the link
+//! order, the choice and the read-out, which no script can carry.
 
 use crate::frame::Frame;
 use crate::refusal::Refusal;
+use crate::warm::ReadOut;
 
 /// What an accepted command gives: a send the frame that left, a choice the index that it names, if
-/// it names one.
+/// it names one, a read-out what was read.
 #[derive(Clone, Copy, Debug, PartialEq, Eq)]
 pub enum Given {
     Nothing,
     Sent(Frame),
     Chosen(Option<usize>),
+    ReadOut(ReadOut),
 }
 
 /// Accepted, with what the command gives, or refused.
@@ -29,14 +31,16 @@ pub enum Command {
     Release { index: u8 },
     Link { index: u8, state: u8 },
     Choose,
+    WarmOn { index: u8, id: u64, flag: u8, state: u64 },
+    ReadOut { index: u8 },
 }
 
-/// How many operand bytes each of the commands 01 to 09 has.
-pub const OPERANDS: [usize; 9] = [7, 1, 1, 1, 0, 14, 12, 8, 1];
+/// How many operand bytes each of the commands 01 to 0A has.
+pub const OPERANDS: [usize; 10] = [7, 1, 1, 1, 0, 14, 12, 8, 1, 14];
 
 impl Command {
     /// Reads the first command and gives the rest after it; 10 unknown, 11 cut short. No byte is
-    /// the link order's or the choice's.
+    /// the link order's, the choice's or the read-out's.
     #[inline]
     pub fn read(script: &[u8]) -> Result<(Command, &[u8]), Refusal> {
         let (&byte, rest) = script.split_first().ok_or(Refusal::CutShort)?;
@@ -50,12 +54,19 @@ impl Command {
             0x07 => operands(rest, Self::message),
             0x08 => operands(rest, Self::enquiry),
             0x09 => operands(rest, |[index]| Command::Release { index }),
+            0x0A => operands(rest, Self::warm_on),
             _ => Err(Refusal::UnknownCommand),
         }
     }
 
     fn power_on([index, a, b, c, d, e, f]: [u8; 7]) -> Command {
         Command::PowerOn { index, id: u64::from_be_bytes([0, 0, a, b, c, d, e, f]) }
+    }
+
+    fn warm_on([index, a, b, c, d, e, f, flag, u, v, w, x, y, z]: [u8; 14]) -> Command {
+        let id = u64::from_be_bytes([0, 0, a, b, c, d, e, f]);
+        let state = u64::from_be_bytes([0, 0, u, v, w, x, y, z]);
+        Command::WarmOn { index, id, flag, state }
     }
 
     fn foreign([kind, a, b, c, d, len, data @ ..]: [u8; 14]) -> Command {
@@ -71,7 +82,8 @@ impl Command {
         Command::Enquiry { index, len, id }
     }
 
-    /// The byte that names the command in a script; the link order and the choice have none.
+    /// The byte that names the command in a script; the link order, the choice and the read-out have
+    /// none.
     pub fn byte(&self) -> Option<u8> {
         match self {
             Command::PowerOn { .. } => Some(0x01),
@@ -83,15 +95,17 @@ impl Command {
             Command::Message { .. } => Some(0x07),
             Command::Enquiry { .. } => Some(0x08),
             Command::Release { .. } => Some(0x09),
-            Command::Link { .. } | Command::Choose => None,
+            Command::WarmOn { .. } => Some(0x0A),
+            Command::Link { .. } | Command::Choose | Command::ReadOut { .. } => None,
         }
     }
 
-    /// Writes the command's bytes at the end of a script: none for the link order and the choice.
+    /// Writes the command's bytes at the end of a script: none for the link order, the choice and the
+    /// read-out.
     pub fn write(&self, script: &mut Vec<u8>) {
         script.extend(self.byte());
         match *self {
-            Command::Tick | Command::Link { .. } | Command::Choose => {}
+            Command::Tick | Command::Link { .. } | Command::Choose | Command::ReadOut { .. } => {}
             Command::Send { index }
             | Command::FailedSend { index }
             | Command::Deliver { index }
@@ -99,6 +113,12 @@ impl Command {
             Command::PowerOn { index, id } => {
                 script.push(index);
                 script.extend_from_slice(&id.to_be_bytes()[2..]);
+            }
+            Command::WarmOn { index, id, flag, state } => {
+                script.push(index);
+                script.extend_from_slice(&id.to_be_bytes()[2..]);
+                script.push(flag);
+                script.extend_from_slice(&state.to_be_bytes()[2..]);
             }
             Command::Foreign { frame } => {
                 script.push(frame.kind);

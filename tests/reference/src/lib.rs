@@ -1,4 +1,4 @@
-//! Another implementation of document 01, with requests A.1 to A.8 of document 02, without proofs: the
+//! Another implementation of document 01, with requests A.1 to A.9 of document 02, without proofs: the
 //! peer for tests and for speed.
 
 pub mod alias;
@@ -15,6 +15,7 @@ pub mod refusal;
 pub mod script;
 pub mod segment;
 pub mod turns;
+pub mod warm;
 pub mod watch;
 
 pub mod generate;
@@ -30,4 +31,5 @@ pub use refusal::Refusal;
 pub use script::{run, run_program};
 pub use segment::{claim_holds, node_ids_differ, Segment, View};
 pub use turns::Turns;
+pub use warm::{ReadOut, Start};
 pub use watch::Watch;

@@ -5,6 +5,7 @@ use crate::frame::{Frame, EXTENDED};
 use crate::header::{self, Header, Kind, Section, AMD, AME, AMR, ERROR_REPORT, FIELD_MAX, RID};
 use crate::link::Link;
 use crate::refusal::Refusal;
+use crate::warm::{ReadOut, Start};
 
 /// The states that document 01 names.
 #[derive(Clone, Copy, Debug, PartialEq, Eq, PartialOrd, Ord)]
@@ -88,7 +89,9 @@ pub struct Node {
     phase: Phase,
     alias: Alias,
     id: u64,
-    generator: u64,
+    /// The generator, and whether the first alias is past: it has stepped since power-on, or the
+    /// power-on was warm.
+    generator: ReadOut,
     waiting: Waiting,
     /// What the host told last. Power-on alone sets it back.
     link: Link,
@@ -102,15 +105,35 @@ impl Node {
         phase: Phase::Off,
         alias: Alias(0),
         id: 0,
-        generator: 0,
+        generator: ReadOut { state: 0, past: false },
         waiting: Waiting::NOTHING,
         link: Link::ErrorActive,
     };
 
     /// A node as power-on leaves it; 3 for Node ID 0 or above 48 bits.
     pub fn power_on(id: u64) -> Result<Node, Refusal> {
-        let alias = alias::first_alias(id)?;
-        Ok(Node { phase: Phase::Check(7), alias, id, generator: id, ..Node::OFF })
+        alias::first_alias(id)?;
+        Ok(Node::started(id, Start::First))
+    }
+
+    /// A node as the power-on leaves it that is given a state of the generator; 3, 18.
+    pub fn warm_on(id: u64, flag: u8, state: u64) -> Result<Node, Refusal> {
+        alias::first_alias(id)?;
+        Ok(Node::started(id, Start::of(flag, state)?))
+    }
+
+    /// A node that starts so under a Node ID of 1 to 48 bits.
+    pub(crate) fn started(id: u64, start: Start) -> Node {
+        let (alias, generator) = (start.alias(id), start.generator(id));
+        Node { phase: Phase::Check(7), alias, id, generator, ..Node::OFF }
+    }
+
+    /// The generator's state, and whether the first alias is past; 2.
+    pub fn read_out(&self) -> Result<ReadOut, Refusal> {
+        if self.is_off() {
+            return Err(Refusal::Off);
+        }
+        Ok(self.generator)
     }
 
     pub fn state(&self) -> State {
@@ -281,7 +304,8 @@ impl Node {
     }
 
     fn restart(&mut self) {
-        (self.alias, self.generator) = alias::next(self.generator);
+        let (alias, state) = alias::next(self.generator.state);
+        (self.alias, self.generator) = (alias, ReadOut { state, past: true });
         self.phase = Phase::Check(7);
         self.waiting = Waiting::NOTHING;
     }

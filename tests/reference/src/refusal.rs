@@ -20,6 +20,7 @@ pub enum Refusal {
     NodeIdInUse = 15,
     NotGridConnect = 16,
     ShortBuffer = 17,
+    BadStart = 18,
 }
 
 impl Refusal {

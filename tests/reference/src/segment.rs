@@ -1,11 +1,12 @@
 //! The segment: 24 nodes with inboxes, ages, the late latch, the mark and the commands of lists.
 
-use crate::alias::Alias;
+use crate::alias::{self, Alias};
 use crate::command::{Answer, Command, Given};
 use crate::frame::Frame;
 use crate::inbox::Inbox;
 use crate::node::{Node, Owed, State};
 use crate::refusal::Refusal;
+use crate::warm::{ReadOut, Start};
 
 /// Ages are kept as the tick since which they run, so that a tick touches no inbox frame.
 #[derive(Clone)]
@@ -75,22 +76,49 @@ impl Segment {
             Command::Release { index } => self.release(index.into())?,
             Command::Link { index, state } => self.link(index.into(), state)?,
             Command::Choose => return Ok(Given::Chosen(self.choose())),
+            Command::WarmOn { index, id, flag, state } => {
+                self.warm_on(index.into(), id, flag, state)?
+            }
+            Command::ReadOut { index } => return self.read_out(index.into()).map(Given::ReadOut),
         }
         Ok(Given::Nothing)
     }
 
     /// 1, 3, 15.
     pub fn power_on(&mut self, index: usize, id: u64) -> Result<(), Refusal> {
+        let place = self.place_for(index, id)?;
+        self.start(place, id, Start::First);
+        Ok(())
+    }
+
+    /// 1, 3, 15, 18.
+    pub fn warm_on(&mut self, index: usize, id: u64, flag: u8, state: u64) -> Result<(), Refusal> {
+        let place = self.place_for(index, id)?;
+        self.start(place, id, Start::of(flag, state)?);
+        Ok(())
+    }
+
+    /// The place of a node that is switched on with this Node ID; 1, 3, 15.
+    fn place_for(&self, index: usize, id: u64) -> Result<usize, Refusal> {
         let place = place(index)?;
-        let node = Node::power_on(id)?;
+        alias::first_alias(id)?;
         if self.holders(id).any(|holder| holder != place) {
             return Err(Refusal::NodeIdInUse);
         }
-        self.nodes[place] = node;
+        Ok(place)
+    }
+
+    /// The node there starts so, whatever it did before, with an empty inbox.
+    fn start(&mut self, place: usize, id: u64, start: Start) {
+        self.nodes[place] = Node::started(id, start);
         self.inboxes[place].clear();
         self.on |= bit(place);
         self.full &= !bit(place);
-        Ok(())
+    }
+
+    /// 1, 2.
+    pub fn read_out(&self, index: usize) -> Result<ReadOut, Refusal> {
+        self.nodes[place(index)?].read_out()
     }
 
     /// 1, 2, 4, 5.

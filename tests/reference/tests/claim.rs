@@ -17,13 +17,15 @@ use reference::{
 #[test]
 fn aliases_are_single_in_kept_lists() {
     let (mut kept, mut several_users, mut contested, mut reported) = (0, 0, 0, 0);
-    let mut chosen = 0;
+    let (mut chosen, mut warm) = (0, 0);
     for number in 0..2_000 {
         let mut rng = Prng::new(seed().wrapping_add(number));
         let mut temper = Temper::random(&mut rng, 2_500);
         temper.limits = (number % 10 != 0).then_some(Limits::KEPT);
         temper.links = if number % 2 == 0 { 0 } else { 10 };
         temper.turns = if number % 4 < 2 { 0 } else { 20 };
+        temper.warm = if number % 3 == 0 { 50 } else { 0 };
+        temper.reads = temper.warm / 10;
         let mut walker = Walker::new(&mut rng, temper);
         walker.run();
         assert!(walker.watch.claim_held(), "seed {} script {number}", seed());
@@ -34,11 +36,14 @@ fn aliases_are_single_in_kept_lists() {
         contested += usize::from(walker.contested.is_some());
         reported += usize::from(walker.reported);
         chosen += usize::from(walker.draft.segment.mark() != Segment::new().mark());
+        let is_warm = |command: &Command| matches!(command, Command::WarmOn { flag: 1, .. });
+        warm += usize::from(walker.contested.is_some() && walker.draft.list.iter().any(is_warm));
     }
     println!("{kept} kept; {several_users} with several users, {contested} with a contested alias");
     println!("{reported} with an error report, {chosen} with choices that moved the mark");
+    println!("{warm} with a contested alias and a warm power-on");
     assert!(kept >= 1_800 && several_users >= 700 && contested >= 400 && reported >= 400);
-    assert!(chosen >= 800);
+    assert!(chosen >= 800 && warm >= 100, "{chosen}, {warm}");
 }
 
 #[test]
@@ -61,13 +66,15 @@ fn a_late_list_can_break_the_claim() {
 
 #[test]
 fn refusals_change_nothing() {
-    let (mut refused, mut links, mut in_use, mut marked) = (0, 0, 0, 0);
+    let (mut refused, mut links, mut in_use, mut marked, mut warm) = (0, 0, 0, 0, 0);
     for number in 0..60 {
         let mut rng = Prng::new(seed() ^ number);
         let mut temper = Temper::random(&mut rng, 700);
         temper.weights = [8, 30, 8, 40, 20, 15, 15, 15];
         temper.links = 10;
         temper.turns = 10;
+        temper.warm = 50;
+        temper.reads = 5;
         let mut segment = Segment::new();
         for command in walk_list(&mut rng, temper) {
             let before = picture(&segment);
@@ -76,15 +83,17 @@ fn refusals_change_nothing() {
                 marked += usize::from(segment.mark() != Segment::new().mark());
                 links += usize::from(matches!(command, Command::Link { .. }));
                 in_use += usize::from(refusal == Refusal::NodeIdInUse);
+                warm += usize::from(refusal == Refusal::BadStart);
                 assert!(picture(&segment) == before, "{command:?}");
             }
         }
     }
     println!(
-        "{refused} refused, {links} of them links, {in_use} by 15, {marked} with a moved mark"
+        "{refused} refused, {links} of them links, {in_use} by 15, {warm} by 18, {marked} with a \
+         moved mark"
     );
     assert!(refused > 1_000 && links > 100 && in_use > 80, "{refused}, {links}, {in_use}");
-    assert!(marked > 1_000, "{marked}");
+    assert!(marked > 1_000 && warm > 30, "{marked}, {warm}");
 }
 
 /// Ages counted one by one, as document 01 says it, beside the segment's own way.
@@ -99,7 +108,11 @@ fn count_ages(ages: &mut [Ages], before: &[View], segment: &Segment, command: &C
         let index = place as u8;
         let now = segment.inbox_len(place);
         match *command {
-            Command::PowerOn { index: i, .. } if i == index && now == 0 => ages.inbox.clear(),
+            Command::PowerOn { index: i, .. } | Command::WarmOn { index: i, .. }
+                if i == index && now == 0 =>
+            {
+                ages.inbox.clear()
+            }
             Command::Deliver { index: i } if i == index && now < before[place].inbox.len() => {
                 ages.inbox.remove(0);
             }
@@ -140,7 +153,9 @@ fn late_and_the_greatest_ages_are_as_the_ages_say() {
         let (mut segment, mut watch, mut most) =
             (Segment::new(), Watch::default(), Limits::default());
         let mut ages = vec![Ages::default(); Segment::PLACES];
-        for command in walk_list(&mut rng, Temper { links: 10, turns: 5, ..temper }) {
+        for command in
+            walk_list(&mut rng, Temper { links: 10, turns: 5, warm: 20, reads: 2, ..temper })
+        {
             let before: Vec<View> = (0..Segment::PLACES).map(|p| segment.view(p)).collect();
             let _ = segment.carry_out(&command);
             watch.see(&segment);

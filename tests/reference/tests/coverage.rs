@@ -1,5 +1,6 @@
 //! The stored corpus reaches every cell that scripts can reach, and every mark; lists with link
-//! orders reach every cell and every link mark; lists with choices reach every turn cell.
+//! orders reach every cell and every link mark; lists with choices reach every turn cell, and lists with
+//! read-outs every warm mark.
 
 mod common;
 
@@ -17,6 +18,8 @@ use reference::generate::prng::Prng;
 use reference::generate::turn_cells::{Act, TurnCell};
 use reference::generate::turn_lists;
 use reference::generate::walker::{walk, walk_list, Temper};
+use reference::generate::warm_lists;
+use reference::generate::warm_marks::WarmMark;
 use reference::header::{self, Header, AMD, AME, RID};
 use reference::map::Entry;
 use reference::{Alias, AliasMap, Frame, State};
@@ -35,6 +38,7 @@ fn corpus_of_scripts_is_complete() {
     assert_eq!(cover.missing_cells(), []);
     assert_eq!(cover.missing_marks(), []);
     assert_eq!(cover.missing_id_marks(), []);
+    assert_eq!(cover.missing_warm_marks_of_scripts(), []);
     assert_eq!(cover.unlisted_cells(), []);
 }
 
@@ -63,6 +67,24 @@ fn lists_with_choices_are_complete() {
     assert_eq!(cover.impossible_cells(), []);
 }
 
+#[test]
+fn lists_with_read_outs_are_complete() {
+    let lists = warm_lists::lists(corpus::SEED);
+    let mut cover = Coverage::new();
+    lists.iter().for_each(|list| cover.count_list(list));
+    let commands: usize = lists.iter().map(Vec::len).sum();
+    println!("{} lists of {commands} commands; {} warm marks", lists.len(), WarmMark::all().len());
+    let mut missing = cover.missing_warm_marks();
+    missing.retain(|mark| !mark.in_scripts());
+    assert_eq!(missing, [], "the corpus has the others");
+    let listed = |mark: &WarmMark| {
+        matches!(mark, WarmMark::Given { flag: 2.., .. }) || WarmMark::all().contains(mark)
+    };
+    assert!(cover.warm.counts.keys().all(listed));
+    assert_eq!(cover.unlisted_cells(), []);
+    assert_eq!(cover.impossible_cells(), []);
+}
+
 /// By the corpus and by random scripts, which do not know what is called impossible.
 #[test]
 fn no_cell_that_is_called_impossible_is_met() {
@@ -72,7 +94,7 @@ fn no_cell_that_is_called_impossible_is_met() {
     }
     for seed in 0..300 {
         let mut rng = Prng::new(seed);
-        let temper = Temper::random(&mut rng, 1_000);
+        let temper = Temper { warm: 30, ..Temper::random(&mut rng, 1_000) };
         cover.count_script(&walk(&mut rng, temper));
     }
     assert_eq!(cover.impossible_cells(), []);
@@ -84,7 +106,8 @@ fn no_list_meets_a_cell_that_is_called_impossible() {
     let mut cover = Coverage::new();
     for seed in 0..300 {
         let mut rng = Prng::new(seed);
-        let temper = Temper { links: 10, turns: 10, ..Temper::random(&mut rng, 1_000) };
+        let temper = Temper::random(&mut rng, 1_000);
+        let temper = Temper { links: 10, turns: 10, warm: 30, reads: 5, ..temper };
         cover.count_list(&walk_list(&mut rng, temper));
     }
     assert_eq!(cover.impossible_cells(), []);
@@ -96,7 +119,7 @@ fn corpus_of_scripts_is_of_the_right_size() {
     let scripts = corpus::scripts(corpus::SEED);
     let (input, output) = corpus::files(&scripts);
     assert!(scripts.len() >= 300);
-    assert!(input.len() <= 400_000 && output.len() <= 1_500_000);
+    assert!(input.len() <= 400_000 && output.len() <= 1_700_000);
     assert!(scripts.iter().all(|script| script.len() <= reference::script::INPUT_MAX));
     let kept = scripts.iter().filter(|script| ends_kept(script)).count();
     assert!(kept >= 100 && scripts.len() - kept >= 50, "{kept} kept");

@@ -222,7 +222,9 @@ fn aliases_are_single_in_random_lists_at_random_corners() {
         let (corner, temper) = contests::at_corner(&mut rng);
         let links = if number % 2 == 0 { 0 } else { 10 };
         let turns = if number % 4 < 2 { 0 } else { 10 };
-        let mut walker = Walker::new(&mut rng, Temper { links, turns, ..temper });
+        let (warm, reads) = if number % 3 == 0 { (50, 2) } else { (0, 0) };
+        let temper = Temper { links, turns, warm, reads, ..temper };
+        let mut walker = Walker::new(&mut rng, temper);
         walker.run();
         let watch = walker.watch;
         assert!(watch.claim_held(), "seed {} list {number} at {corner:?}: {watch:?}", seed());

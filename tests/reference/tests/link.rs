@@ -344,7 +344,7 @@ fn no_script_can_carry_the_order() {
     draft.link(0, 1).link(0, 9);
     assert_eq!(draft.bytes, script);
     assert_eq!(draft.list[draft.list.len() - 2], Command::Link { index: 0, state: 1 });
-    for byte in (0x0A..=0xFF).chain([0x00]) {
+    for byte in (0x0B..=0xFF).chain([0x00]) {
         let mut out = Vec::new();
         run(&[byte, 0, 1], &mut out);
         let expected = format!("1 {byte:02X} refused 10\nkept\n");

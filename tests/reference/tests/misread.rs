@@ -318,7 +318,7 @@ fn a_command_is_read_whole_before_its_refusals() {
     assert_eq!(output(&[]), "kept\n");
     assert_eq!(output(&[0x01, 0xFF]), "1 01 refused 11\nkept\n");
     assert_eq!(output(&[0x06, 9, 0xFF, 0xFF]), "1 06 refused 11\nkept\n");
-    assert_eq!(output(&[0x05, 0x0A]), "1 05 ok\n2 0A refused 10\nkept\n");
+    assert_eq!(output(&[0x05, 0x0B]), "1 05 ok\n2 0B refused 10\nkept\n");
     assert_eq!(output(&[0x00, 0x05]), "1 00 refused 10\nkept\n");
     assert_eq!(output(&[0x02]), "1 02 refused 11\nkept\n");
 }

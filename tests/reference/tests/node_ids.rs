@@ -150,7 +150,8 @@ fn node_ids_differ_after_every_command_of_every_list() {
     let (mut late, mut refused) = (0, 0);
     for number in 0..400 {
         let mut rng = Prng::new(seed() ^ 0x6000 ^ number);
-        let temper = Temper { links: 5, turns: 5, ..Temper::random(&mut rng, 1_000) };
+        let temper = Temper::random(&mut rng, 1_000);
+        let temper = Temper { links: 5, turns: 5, warm: 40, reads: 3, ..temper };
         let mut walker = Walker::new(&mut rng, temper);
         walker.run();
         assert!(!walker.watch.equal_ids, "seed {} list {number}", seed());

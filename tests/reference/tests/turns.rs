@@ -455,6 +455,6 @@ fn no_script_can_carry_the_choice() {
     assert_eq!((&draft.bytes, draft.list.last()), (&script, Some(&Command::Choose)));
     assert_eq!(Command::Choose.byte(), None);
     let mut out = Vec::new();
-    run(&[0x0A], &mut out);
-    assert_eq!(String::from_utf8(out).unwrap(), "1 0A refused 10\nkept\n");
+    run(&[0x0B], &mut out);
+    assert_eq!(String::from_utf8(out).unwrap(), "1 0B refused 10\nkept\n");
 }

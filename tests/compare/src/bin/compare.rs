@@ -65,7 +65,8 @@ impl Made {
         };
         let at_corner = rng.percent(5);
         let temper = if at_corner { contests::at_corner(rng).1 } else { Temper::random(rng, commands) };
-        let mut script = walk(rng, temper);
+        let warm = rng.pick(&[0, 10, 60]);
+        let mut script = walk(rng, Temper { warm, ..temper });
         if rng.below(40) == 0 {
             let ticks = rng.between(ROUND - 250, ROUND);
             script.splice(..0, std::iter::repeat_n(Command::Tick.byte(), ticks).flatten());

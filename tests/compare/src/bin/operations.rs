@@ -1,18 +1,18 @@
 //! Compares the operations for C with the other implementation. The table: OPERATIONS commands, and all that is seen after each of
-//! them, and the mark; first the lists of the stored corpus, which meet every state with every event that a script can carry, then
-//! lists with link orders and choices, which meet the rest too, then lists at random corners of A.3, then others by chance. Some of
-//! the lists are also carried out on two proved tables, with bit 28 of foreign frames turned in one. Then headers, aliases,
-//! GridConnect text and the map. SEED may be given.
+//! them, what is read out, and the mark; first the lists of the stored corpus, which meet every state with every event that a script can
+//! carry, then lists with link orders, choices and read-outs, which meet the rest too, then lists at random corners of A.3, then others
+//! by chance. Some of the lists are also carried out on two proved tables, with bit 28 of foreign frames turned in one. Then tables of
+//! any words, headers, aliases, GridConnect text and the map. SEED may be given.
 
 use compare::operations::map::{self, Counts, LookUps};
 use compare::operations::operation::Operation;
 use compare::operations::twins::{self, MapCounts};
-use compare::operations::{corners, cover, grid_marks, gridconnect, headers, list, pair};
+use compare::operations::{any_words, corners, cover, grid_marks, gridconnect, headers, list, pair, warm};
 use compare::setting::{fresh_seed, setting};
 use compare::shrink::fewest;
 use reference::generate::coverage::Coverage;
 use reference::generate::prng::Prng;
-use reference::generate::{corpus, link_lists, turn_lists};
+use reference::generate::{corpus, link_lists, turn_lists, warm_lists};
 use reference::{Command, Limits};
 use std::fmt::{Debug, Display};
 use std::process::exit;
@@ -28,6 +28,8 @@ fn main() {
     let seed = setting("SEED", 0, fresh_seed());
     let wanted = setting("OPERATIONS", 1, 2_000_000) as usize;
     let at_corners = compare_tables(seed, wanted);
+    let calls = any_words::try_all(seed).unwrap_or_else(|what| fail(&format!("SEED={seed}: {what}")));
+    println!("operations: {calls} warm power-ons, each between two read-outs, return on tables of any words");
     compare_headers(seed);
     compare_gridconnect(seed);
     compare_maps(seed);
@@ -64,6 +66,7 @@ fn compare_tables(seed: u64, wanted: usize) -> String {
     }
     run.compare_all(link_lists::lists(corpus::SEED), "with link orders, of those made for every run");
     run.compare_all(turn_lists::lists(corpus::SEED), "with choices, of those made for every run");
+    run.compare_all(warm_lists::lists(corpus::SEED), "with read-outs, of those made for every run");
     for number in 0..corners::LISTS {
         let seed = seed.wrapping_add(number);
         let (corner, list) = corners::random(&mut Prng::new(seed));
@@ -81,6 +84,7 @@ fn compare_tables(seed: u64, wanted: usize) -> String {
     println!("{}", cover::id_marks(&run.cover));
     println!("{}", cover::link_marks(&run.cover));
     println!("{}", cover::turn_cells(&run.cover));
+    println!("{}", cover::warm_marks(&run.cover));
     run.end(seed);
     run.corners.line().unwrap_or_else(|unmet| fail(&unmet))
 }
@@ -91,6 +95,7 @@ struct Run {
     cover: Coverage,
     corners: corners::Counts,
     twins: twins::Counts,
+    warm: warm::Counts,
     lists: usize,
     late: usize,
     done: usize,
@@ -111,7 +116,7 @@ impl Run {
 
     /// Compares a list, on twin tables too where that is wanted, and gives its greatest ages.
     fn compare(&mut self, list: &[Operation], whose: &str, with_twins: bool) -> Limits {
-        let greatest = pair::compare(list, &mut self.cover).unwrap_or_else(|what| {
+        let (greatest, warm) = pair::compare(list, &mut self.cover).unwrap_or_else(|what| {
             let differs = |less: &[Operation]| pair::compare(less, &mut Coverage::new()).err();
             report(list, whose, &what, "card_new(table);", differs, Operation::clone)
         });
@@ -119,6 +124,7 @@ impl Run {
             self.compare_twins(list, whose);
         }
         self.show_progress(list.len());
+        self.warm.add(&warm);
         self.lists += 1;
         self.late += usize::from(!greatest.are_kept());
         self.done += list.len();
@@ -148,6 +154,8 @@ impl Run {
         all_met("these link marks were never met", &self.cover.missing_link_marks());
         all_met("these marks of Node IDs at power-on were never met", &self.cover.missing_id_marks());
         all_met("these turn cells were never met", &self.cover.missing_turn_cells());
+        all_met("these warm marks were never met", &self.cover.missing_warm_marks());
+        all_met("this was never met of warm power-ons", &self.warm.missing());
         let Run { lists, late, done, far, links, choices, .. } = self;
         println!("operations: {done} commands agree, SEED={seed}: in {lists} lists, {late} of them late;");
         println!(
@@ -156,7 +164,20 @@ impl Run {
         println!("operations: after each, every node, due frame and inbox; and no word was changed by a refusal or by a look;");
         println!("operations: after each, the mark, by a choice in a copy of the table; after each list, 25 choices more;");
         println!("operations: of any 24 choices at which a node was due one named it, and no choice changed more than the mark");
+        self.end_warm();
         self.end_twins();
+    }
+
+    fn end_warm(&self) {
+        let warm::Counts { back: [first, past], elsewhere: [first_elsewhere, past_elsewhere], .. } = self.warm;
+        println!(
+            "operations: after each, what is read out of every node; 01, and 0A with flag 0, leave the same words of the table;"
+        );
+        println!(
+            "operations: {past} nodes were given back what was read out of them, {past_elsewhere} at other indexes, and {first} with \
+             flag 0, {first_elsewhere} at others: each has the alias that it had, and tests it in full;"
+        );
+        println!("operations: {} warm power-ons have a state above 48 bits: accepted with flag 0 alone", self.warm.wide());
     }
 
     fn end_twins(&self) {

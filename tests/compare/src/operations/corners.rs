@@ -10,10 +10,12 @@ use reference::Limits;
 /// So many lists at corners are compared in every run.
 pub const LISTS: u64 = 300;
 
-/// A corner by chance, and a list that keeps its limits; with link orders often, seldom or not at all, and with turns likewise.
+/// A corner by chance, and a list that keeps its limits; with link orders often, seldom or not at all, and with turns, power-ons by 0A
+/// and read-outs likewise.
 pub fn random(rng: &mut Prng) -> (Limits, Vec<Operation>) {
     let (corner, temper) = contests::at_corner(rng);
-    let temper = Temper { links: rng.pick(&[0, 2, 10]), turns: rng.pick(&[0, 2, 10]), ..temper };
+    let (warm, reads) = rng.pick(&[(0, 0), (50, 2)]);
+    let temper = Temper { links: rng.pick(&[0, 2, 10]), turns: rng.pick(&[0, 2, 10]), warm, reads, ..temper };
     let commands = walk_list(rng, temper);
     let mut list = first_ticks(rng);
     list.extend(commands.into_iter().map(Operation::from));

@@ -1,17 +1,18 @@
-//! How often each state of a node met each event, drawn as a table; and how often each link mark, each mark of Node IDs and each turn
-//! cell was met.
+//! How often each state of a node met each event, drawn as a table; and how often each link mark, each mark of Node IDs, each turn cell
+//! and each warm mark was met.
 
 use reference::generate::coverage::{reachable, Coverage, Event, Look, Row};
 use reference::generate::id_marks::IdMark;
 use reference::generate::link_marks::{Cause, LinkMark};
 use reference::generate::turn_cells::{Act, TurnCell};
+use reference::generate::warm_marks::{Cause as WarmCause, Since, WarmMark};
 use std::collections::{BTreeMap, BTreeSet};
 use std::fmt::Write;
 
 const STATES: [&str; 7] = ["Off", "Testing", "Reserved", "Permitted", "Leaving", "Resting", "Silent"];
 
-const COMMANDS: [&str; 9] =
-    ["power-on", "send", "failed send", "deliver", "tick", "foreign frame", "message", "enquiry", "release"];
+const COMMANDS: [&str; 10] =
+    ["power-on", "send", "failed send", "deliver", "tick", "foreign frame", "message", "enquiry", "release", "power-on by 0A"];
 
 fn column(row: Row) -> usize {
     match row {
@@ -30,6 +31,7 @@ fn label(event: Event) -> String {
         Event::Answer(byte, 0) => COMMANDS[usize::from(byte) - 1].to_string(),
         Event::Answer(byte, refusal) => format!("{}, refused {refusal}", COMMANDS[usize::from(byte) - 1]),
         Event::EnquiryTaken { all } => format!("enquiry for {}", if all { "all" } else { "one" }),
+        Event::WarmOnTaken { warm } => format!("power-on by 0A, flag {}", u8::from(warm)),
         Event::Deliver(case) => format!("deliver {case:?}"),
         Event::DeliverBit28 { heed, bit_28 } => format!("deliver {heed:?}, bit 28 as {}", u8::from(bit_28)),
         Event::DeliverAliasZero(heed) => format!("deliver {heed:?}, alias 0"),
@@ -40,6 +42,9 @@ fn label(event: Event) -> String {
         Event::Choice(Look::Named) => "a choice names it".to_string(),
         Event::Choice(Look::PassedOver) => "a choice passes over it".to_string(),
         Event::Choice(Look::NotReached) => "a choice ends before it".to_string(),
+        Event::ReadOut { past: true } => "read-out, first alias past".to_string(),
+        Event::ReadOut { past: false } => "read-out, first alias not past".to_string(),
+        Event::ReadOutRefused(refusal) => format!("read-out, refused {refusal}"),
     }
 }
 
@@ -85,9 +90,11 @@ fn id_label(mark: &IdMark) -> String {
     }
 }
 
-/// A line for each mark of Node IDs at power-on.
+/// A line for each mark of Node IDs at power-on, by 01 and by 0A.
 pub fn id_marks(cover: &Coverage) -> String {
-    marks("Node IDs at power-on", IdMark::all(), &cover.ids.counts, id_label)
+    let by_01 = marks("Node IDs at power-on", IdMark::all(), &cover.ids.counts, id_label);
+    let by_0a = marks("Node IDs at power-on by 0A", IdMark::all(), &cover.warm_ids.counts, id_label);
+    format!("{by_01}\n{by_0a}")
 }
 
 fn link_label(mark: &LinkMark) -> String {
@@ -101,9 +108,11 @@ fn link_label(mark: &LinkMark) -> String {
         LinkMark::Dropped(Cause::Release) => "error report dropped by a release".to_string(),
         LinkMark::Dropped(Cause::Silent) => "error report dropped by the duplicate report".to_string(),
         LinkMark::Dropped(Cause::PowerOn) => "error report dropped by power-on".to_string(),
+        LinkMark::Dropped(Cause::WarmOn) => "error report dropped by power-on by 0A".to_string(),
         LinkMark::ToldIn(state) => format!("error report from a link state told in {state:?}"),
         LinkMark::KeptThroughRestart(state) => format!("error report from a link state kept by a restart in {state:?}"),
-        LinkMark::SetBack => "error report from the link state that power-on set back".to_string(),
+        LinkMark::SetBack { by_0a: false } => "error report from the link state that power-on set back".to_string(),
+        LinkMark::SetBack { by_0a: true } => "error report from the link state that power-on by 0A set back".to_string(),
     }
 }
 
@@ -124,6 +133,10 @@ fn act_words(act: Act) -> &'static str {
         Act::PoweredOn => "it is powered on",
         Act::PowerOnRefused => "its power-on is refused",
         Act::AnotherPoweredOn => "another is powered on",
+        Act::WarmedOn => "it is powered on by 0A",
+        Act::WarmOnRefused => "its power-on by 0A is refused",
+        Act::AnotherWarmedOn => "another is powered on by 0A",
+        Act::ReadOut => "it is read out",
         Act::Message => "its host orders a message",
         Act::Enquiry => "its host orders an enquiry",
         Act::Release => "it is released",
@@ -145,12 +158,52 @@ fn turn_label(cell: &TurnCell) -> String {
     }
 }
 
-/// A line for each sort of turn cells: how many it has, and how often each of them was met at least.
+/// A line for each sort of turn cells.
 pub fn turn_cells(cover: &Coverage) -> String {
-    let mut text = format!("{:<56}{:>5}{:>11}", "choices", "cells", "each met");
-    for sort in TurnCell::all().chunk_by(|one, next| turn_label(one) == turn_label(next)) {
-        let least = sort.iter().map(|cell| *cover.turns.counts.get(cell).unwrap_or(&0)).min().unwrap_or(0);
-        write!(text, "\n{:<56}{:>5}{least:>11}", turn_label(&sort[0]), sort.len()).expect("a string takes it");
+    sorts(["choices", "cells"], TurnCell::all(), &cover.turns.counts, turn_label)
+}
+
+fn since_words(since: Since) -> String {
+    match since {
+        Since::First { by_0a, after_warm } => {
+            let byte = if by_0a { "0A, flag 0" } else { "01" };
+            format!("power-on by {byte}{}", if after_warm { ", after a warm one" } else { "" })
+        }
+        Since::Warm { was_on: true } => "warm power-on in its place".to_string(),
+        Since::Warm { was_on: false } => "warm power-on from Off".to_string(),
+        Since::Restart(WarmCause::Failed) => "a failed send".to_string(),
+        Since::Restart(WarmCause::MetInTesting) => "a frame with its alias in Testing".to_string(),
+        Since::Restart(WarmCause::MetInReserved) => "a frame with its alias in Reserved".to_string(),
+        Since::Restart(WarmCause::AmrLeft) => "its AMR has left".to_string(),
+    }
+}
+
+fn warm_label(mark: &WarmMark) -> String {
+    match mark {
+        WarmMark::Given { flag, .. } => format!("power-on by 0A with flag {flag}, states of six sorts"),
+        WarmMark::Back { past, .. } => format!("given back in its place, each state, flag {}", u8::from(*past)),
+        WarmMark::BackElsewhere { past } => format!("given back at another index, flag {}", u8::from(*past)),
+        WarmMark::ReadOut(0) => "read-out".to_string(),
+        WarmMark::ReadOut(refusal) => format!("read-out, refused {refusal}"),
+        WarmMark::Read { since, .. } => format!("read out after {}", since_words(*since)),
+        WarmMark::ReadNodeIdPast { stepped: true } => "the Node ID is read, past: a step led there".to_string(),
+        WarmMark::ReadNodeIdPast { stepped: false } => "the Node ID is read, past: it was given".to_string(),
+    }
+}
+
+/// A line for each sort of warm marks.
+pub fn warm_marks(cover: &Coverage) -> String {
+    let mut all = WarmMark::all();
+    all.sort_by_key(warm_label);
+    sorts(["read-outs and power-ons by 0A", "marks"], all, &cover.warm.counts, warm_label)
+}
+
+/// A line for each label, with how many have it, and how often each of them was met at least.
+fn sorts<M: Ord>([title, many]: [&str; 2], all: Vec<M>, counts: &BTreeMap<M, u64>, label: impl Fn(&M) -> String) -> String {
+    let mut text = format!("{title:<56}{many:>5}{:>11}", "each met");
+    for sort in all.chunk_by(|one, next| label(one) == label(next)) {
+        let least = sort.iter().map(|mark| *counts.get(mark).unwrap_or(&0)).min().unwrap_or(0);
+        write!(text, "\n{:<56}{:>5}{least:>11}", label(&sort[0]), sort.len()).expect("a string takes it");
     }
     text
 }

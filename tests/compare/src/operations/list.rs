@@ -1,8 +1,9 @@
-//! Lists of operations: the commands of a script or of a list with link orders and choices, and among them operations with operands
-//! that no command can carry.
+//! Lists of operations: the commands of a script or of a list with link orders, choices and read-outs, and among them operations with
+//! operands that no command can carry.
 
 use super::operation::Operation;
 use crate::ROUND;
+use reference::alias::MAX_48;
 use reference::generate::draft::Draft;
 use reference::generate::prng::Prng;
 use reference::generate::walker::{walk_list, walk_list_on, Temper};
@@ -25,7 +26,7 @@ pub fn random(rng: &mut Prng) -> Vec<Operation> {
     let mut list = first_ticks(rng);
     let mut id = 1;
     for command in commands {
-        if let Command::PowerOn { id: next, .. } = command {
+        if let Command::PowerOn { id: next, .. } | Command::WarmOn { id: next, .. } = command {
             id = next;
         }
         if rng.percent(8) {
@@ -37,7 +38,7 @@ pub fn random(rng: &mut Prng) -> Vec<Operation> {
 }
 
 /// Commands, many or few, from all nodes Off or from some that are Permitted; with link orders often, seldom or not at all, and with
-/// turns likewise.
+/// turns, power-ons by 0A and read-outs likewise.
 fn commands(rng: &mut Prng) -> Vec<Command> {
     let commands = match rng.below(40) {
         0 => 6_000,
@@ -46,7 +47,8 @@ fn commands(rng: &mut Prng) -> Vec<Command> {
         _ => 1_000,
     };
     let (links, turns) = (rng.pick(&[0, 2, 10, 30]), rng.pick(&[0, 2, 10, 30]));
-    let temper = Temper { links, turns, ..Temper::random(rng, commands) };
+    let (warm, reads) = rng.pick(&[(0, 0), (20, 2), (50, 10), (90, 5)]);
+    let temper = Temper { links, turns, warm, reads, ..Temper::random(rng, commands) };
     if temper.nodes == Segment::PLACES || rng.percent(30) {
         return walk_list(rng, temper);
     }
@@ -71,7 +73,7 @@ fn len(rng: &mut Prng) -> u8 {
 /// is the Node ID of the list's last power-on.
 fn far(rng: &mut Prng, id: u64) -> Operation {
     let (index, len, bytes) = (index(rng), len(rng), rng.number());
-    match rng.below(9) {
+    match rng.below(12) {
         0 => Operation::PowerOn { index, id: rng.pick(&[0, 1 << 48, u64::MAX, bytes | 1 << 63, id, id | 1 << 48]) },
         1 => Operation::Send { index },
         2 => Operation::Fail { index },
@@ -84,8 +86,19 @@ fn far(rng: &mut Prng, id: u64) -> Operation {
         5 => Operation::Message { index, field: rng.pick(&[0, 0x7FFF, 0x8000, 0xFFFF, bytes as u16]), len, bytes },
         6 => Operation::Enquiry { index, len, bytes },
         7 => Operation::Release { index },
+        8 | 9 => warm_on(rng, index, id),
+        10 => Operation::ReadOut { index },
         _ => Operation::Link { index, state: rng.pick(&[0, 1, 2, 3, 4, 128, 255, bytes as u8]) },
     }
+}
+
+/// A power-on by 0A: with any flag, and with a state of 48 bits or above.
+fn warm_on(rng: &mut Prng, index: usize, id: u64) -> Operation {
+    let (any, flag) = (rng.number(), rng.byte());
+    let id = rng.pick(&[0, 1 << 48, any | 1 << 63, any >> 17, any >> 17, id, id, id | 1 << 48]);
+    let flag = rng.pick(&[0, 0, 1, 1, 1, 2, 255, flag]);
+    let state = rng.pick(&[0, MAX_48, MAX_48 + 1, u64::MAX, any, any | 1 << 63, any & MAX_48, id]);
+    Operation::WarmOn { index, id, flag, state }
 }
 
 #[cfg(test)]
@@ -97,7 +110,7 @@ mod tests {
     fn a_script_and_its_operations_say_the_same() {
         for seed in 0..50 {
             let mut rng = Prng::new(seed);
-            let temper = Temper::random(&mut rng, 250);
+            let temper = Temper { warm: 30, ..Temper::random(&mut rng, 250) };
             let script = walk(&mut rng, temper);
             let mut again = Vec::new();
             for operation in of_script(&script) {
@@ -122,5 +135,9 @@ mod tests {
         met(|operation| matches!(operation, Operation::Foreign { header: u32::MAX, .. }));
         met(|operation| matches!(operation, Operation::Link { index: usize::MAX, .. }));
         met(|operation| matches!(operation, Operation::Link { index: 0..=23, state: 255 }));
+        met(|operation| matches!(operation, Operation::ReadOut { index: usize::MAX }));
+        met(|operation| matches!(operation, Operation::WarmOn { index: 0..=23, flag: 0, state: u64::MAX, .. }));
+        met(|operation| matches!(operation, Operation::WarmOn { index: 0..=23, flag: 1, state: 0x1_0000_0000_0000, .. }));
+        met(|operation| matches!(operation, Operation::WarmOn { index: 0..=23, flag: 255, state: 0, .. }));
     }
 }

@@ -1,5 +1,6 @@
 //! The operations for C against the other implementation, call by call.
 
+pub mod any_words;
 pub mod corners;
 pub mod cover;
 pub mod grid_marks;
@@ -13,6 +14,7 @@ pub mod pair;
 pub mod seen;
 pub mod turn;
 pub mod twins;
+pub mod warm;
 
 use crate::card::MARK;
 use reference::Refusal;
@@ -35,6 +37,14 @@ pub fn refused<const N: usize>(refusal: Refusal) -> Answered<N> {
 /// The other implementation's answer, its value as words.
 pub fn answered<const N: usize, T>(answer: Result<T, Refusal>, words: impl FnOnce(T) -> [u64; N]) -> Answered<N> {
     answer.map_or_else(refused, |value| (0, words(value)))
+}
+
+/// A code in words, with the refusal's number as the papers have it, in decimal.
+pub fn told(code: u64) -> String {
+    match code {
+        0 => "accepted".to_string(),
+        number => format!("refused by {number}"),
+    }
 }
 
 /// Fails with both values where they differ.

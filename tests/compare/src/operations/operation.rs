@@ -20,6 +20,8 @@ pub enum Operation {
     Release { index: usize },
     Link { index: usize, state: u8 },
     Choose,
+    WarmOn { index: usize, id: u64, flag: u8, state: u64 },
+    ReadOut { index: usize },
 }
 
 impl From<Command> for Operation {
@@ -42,6 +44,8 @@ impl From<Command> for Operation {
             Command::Release { index } => Operation::Release { index: index.into() },
             Command::Link { index, state } => Operation::Link { index: index.into(), state },
             Command::Choose => Operation::Choose,
+            Command::WarmOn { index, id, flag, state } => Operation::WarmOn { index: index.into(), id, flag, state },
+            Command::ReadOut { index } => Operation::ReadOut { index: index.into() },
         }
     }
 }
@@ -56,10 +60,9 @@ impl Operation {
     /// The command of a list that says the same, if its operands have room for these.
     pub fn command(&self) -> Option<Command> {
         let byte = |index: usize| u8::try_from(index).ok();
+        let in_48 = |number: u64| Some(number).filter(|number| number >> 48 == 0);
         Some(match *self {
-            Operation::PowerOn { index, id } => {
-                Command::PowerOn { index: byte(index)?, id: Some(id).filter(|id| id >> 48 == 0)? }
-            }
+            Operation::PowerOn { index, id } => Command::PowerOn { index: byte(index)?, id: in_48(id)? },
             Operation::Send { index } => Command::Send { index: byte(index)? },
             Operation::Fail { index } => Command::FailedSend { index: byte(index)? },
             Operation::Deliver { index } => Command::Deliver { index: byte(index)? },
@@ -77,6 +80,10 @@ impl Operation {
             Operation::Release { index } => Command::Release { index: byte(index)? },
             Operation::Link { index, state } => Command::Link { index: byte(index)?, state },
             Operation::Choose => Command::Choose,
+            Operation::WarmOn { index, id, flag, state } => {
+                Command::WarmOn { index: byte(index)?, id: in_48(id)?, flag, state: in_48(state)? }
+            }
+            Operation::ReadOut { index } => Command::ReadOut { index: byte(index)? },
         })
     }
 
@@ -85,7 +92,8 @@ impl Operation {
         self.command().map_or(*self, |command| twin_command(&command).into())
     }
 
-    /// By the proved library: its answer, and the words of the frame that left, or the word that says who was chosen.
+    /// By the proved library: its answer, and the words of the frame that left, or the word that says who was chosen, or the two that
+    /// were read out.
     pub fn proved(&self, card: &mut Card) -> Answered<3> {
         let code = match *self {
             Operation::PowerOn { index, id } => card.power_on(index, id),
@@ -101,6 +109,11 @@ impl Operation {
             Operation::Choose => {
                 let (code, [chosen]) = put_out(|chosen| card.choose(chosen));
                 return (code, [chosen, MARK, MARK]);
+            }
+            Operation::WarmOn { index, id, flag, state } => card.warm_on(index, id, flag, state),
+            Operation::ReadOut { index } => {
+                let (code, [state, past]) = put_out(|out| card.read_out(index, out));
+                return (code, [state, past, MARK]);
             }
         };
         (code, [MARK; 3])
@@ -120,6 +133,8 @@ impl Operation {
             Operation::Enquiry { index, len, bytes } => segment.enquiry(index, len, enquired(bytes).0)?,
             Operation::Release { index } => segment.release(index)?,
             Operation::Link { index, state } => segment.link(index, state)?,
+            Operation::WarmOn { index, id, flag, state } => segment.warm_on(index, id, flag, state)?,
+            Operation::ReadOut { index } => return segment.read_out(index).map(Given::ReadOut),
             Operation::Tick | Operation::Foreign { .. } | Operation::Choose => unreachable!("it is a command"),
         }
         Ok(Given::Nothing)
@@ -145,6 +160,10 @@ impl fmt::Display for Operation {
             Operation::Release { index } => write!(out, "card_release(table, {index});"),
             Operation::Link { index, state } => write!(out, "card_link(table, {index}, {state});"),
             Operation::Choose => write!(out, "card_choose(table, chosen);"),
+            Operation::WarmOn { index, id, flag, state } => {
+                write!(out, "card_warm_on(table, {index}, 0x{id:012X}, {flag}, 0x{state:012X});")
+            }
+            Operation::ReadOut { index } => write!(out, "card_read_out(table, {index}, out);"),
         }
     }
 }

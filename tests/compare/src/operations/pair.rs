@@ -1,9 +1,10 @@
-//! Both implementations side by side: after each operation all that can be seen of either is compared, and the mark.
+//! Both implementations side by side: after each operation all that can be seen of either is compared, what is read out, and the mark.
 
 use super::operation::Operation;
 use super::seen::{self, frame_words, words_but_kind, Seen};
 use super::turn::{self, chosen_word, said};
-use super::{answered, put_out, refused, same};
+use super::warm::{self, Notes};
+use super::{answered, put_out, refused, same, told};
 use crate::card::{Card, MARK};
 use reference::generate::coverage::Coverage;
 use reference::{Given, Limits, Refusal, Segment, Turns, Watch};
@@ -23,6 +24,7 @@ pub struct Pair {
     operations: usize,
     watch: Watch,
     turns: Turns,
+    notes: Notes,
 }
 
 impl Default for Pair {
@@ -31,38 +33,41 @@ impl Default for Pair {
     }
 }
 
-/// Compares a list of operations from all nodes Off: its greatest ages, or what differs.
-pub fn compare(operations: &[Operation], cover: &mut Coverage) -> Result<Limits, String> {
+/// Compares a list of operations from all nodes Off: its greatest ages, and what it met of A.9; or what differs.
+pub fn compare(operations: &[Operation], cover: &mut Coverage) -> Result<(Limits, warm::Counts), String> {
     let mut pair = Pair::new();
     let result = pair.mark().and_then(|()| operations.iter().try_for_each(|operation| pair.step(operation, cover)));
     cover.end_script(&pair.segment);
     result.and_then(|()| pair.round()).map_err(|what| format!("operation {}: {what}", pair.operations))?;
-    Ok(pair.watch.greatest)
+    Ok((pair.watch.greatest, pair.notes.counts))
 }
 
 impl Pair {
     pub fn new() -> Pair {
         let card = Card::new();
         let words = card.words().to_vec();
-        let (watch, turns) = (Watch::default(), Turns::default());
-        Pair { card, segment: Segment::new(), words, operations: 0, watch, turns }
+        let (watch, turns, notes) = (Watch::default(), Turns::default(), Notes::default());
+        Pair { card, segment: Segment::new(), words, operations: 0, watch, turns, notes }
     }
 
     /// Carries out an operation on both sides and compares all there is.
     pub fn step(&mut self, operation: &Operation, cover: &mut Coverage) -> Result<(), String> {
         self.operations += 1;
         let before = (*operation == Operation::Choose).then(|| (turn::due(&self.card), self.segment.mark()));
+        warm::same_as_01(&self.card, operation)?;
         let proved = operation.proved(&mut self.card);
         let plain = answered(operation.plain(&mut self.segment, cover), given_words);
         if let Some((due, mark)) = before {
             same(|| CHOICE.to_string(), said(proved), said(plain))?;
             self.choice(due, mark, turn::named_by(proved.1[0])).map_err(|what| format!("{operation} {what}"))?;
         }
+        same(|| format!("{operation} is"), told(proved.0), told(plain.0))?;
         same(|| format!("{operation} answers"), proved, plain)?;
         if proved.0 != 0 && self.card.words() != self.words {
             return Err(format!("{operation} is refused and changes the table"));
         }
         self.words.copy_from_slice(self.card.words());
+        self.notes.see(operation, proved, &self.card).map_err(|what| format!("after {operation} {what}"))?;
         self.watch.see(&self.segment);
         self.claim().map_err(|side| format!("after {operation} the claim fails {side}, with {:?}", self.watch.greatest))?;
         self.look()?;
@@ -125,6 +130,7 @@ impl Pair {
             let seen = seen::of(self.segment.node(index), self.segment.inbox_len(index));
             same(|| format!("card_look(table, {index}, seen)"), put_out(|words| self.card.look(index, words)), (0, seen))?;
             self.look_in(index)?;
+            self.read_out(index)?;
         }
         let index = NO_INDEX[self.operations % NO_INDEX.len()];
         same(
@@ -134,10 +140,17 @@ impl Pair {
         )?;
         let frame = put_out(|frame| self.card.inbox(index, self.operations % 32, frame));
         same(|| format!("card_inbox(table, {index}, ..)"), frame, refused(Refusal::NoSuchIndex))?;
+        self.read_out(index)?;
         if self.card.words() != self.words {
             return Err("looking changes the table".to_string());
         }
         Ok(())
+    }
+
+    /// What is read out at an index.
+    fn read_out(&self, index: usize) -> Result<(), String> {
+        let proved = put_out(|out| self.card.read_out(index, out));
+        same(|| format!("card_read_out(table, {index}, out)"), proved, answered(self.segment.read_out(index), warm::words))
     }
 
     /// Every frame of an inbox, and none behind the last.
@@ -156,12 +169,16 @@ impl Pair {
     }
 }
 
-/// The words of the frame that left, or the one for who was chosen.
+/// The words of the frame that left, or the one for who was chosen, or the two that were read out.
 fn given_words(given: Given) -> [u64; 3] {
     match given {
         Given::Nothing => [MARK; 3],
         Given::Sent(frame) => words_but_kind(frame),
         Given::Chosen(named) => [chosen_word(named), MARK, MARK],
+        Given::ReadOut(read) => {
+            let [state, past] = warm::words(read);
+            [state, past, MARK]
+        }
     }
 }
 
@@ -276,7 +293,7 @@ mod tests {
     fn lateness_is_compared() {
         let mut list = vec![ON, Operation::Foreign { kind: 0, header: 0x1070_0001, len: 0, bytes: 0 }];
         list.extend([Operation::Tick; 41]);
-        assert_eq!(compare(&list, &mut Coverage::new()), Ok(Limits::new(41, 0)));
+        assert_eq!(compare(&list, &mut Coverage::new()).map(|(greatest, _)| greatest), Ok(Limits::new(41, 0)));
         let mut pair = on();
         for _ in 0..41 {
             pair.segment.tick();

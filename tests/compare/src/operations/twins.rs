@@ -91,6 +91,8 @@ impl Twins {
         for index in 0..Segment::PLACES {
             let looks = cards.map(|card| seen::shown(card, index));
             alike(|| format!("card_look(table, {index}, seen)"), NAMES, looks)?;
+            let reads = cards.map(|card| put_out(|out| card.read_out(index, out)));
+            alike(|| format!("card_read_out(table, {index}, out)"), NAMES, reads)?;
             (0..seen::inbox(&looks[0])).try_for_each(|place| self.look_in(index, place))?;
         }
         Ok(())

@@ -12,6 +12,8 @@ use crate::script;
 pub const SEED: u64 = 0x0501_0101_0101;
 
 const WALKS: usize = 72;
+/// So many walks more have power-ons by 0A too.
+const WARM_WALKS: usize = 12;
 
 /// All scripts of the corpus, in order.
 pub fn scripts(seed: u64) -> Vec<Vec<u8>> {
@@ -28,6 +30,12 @@ pub fn scripts(seed: u64) -> Vec<Vec<u8>> {
         if temper.limits.is_none() {
             temper.tick_run = temper.tick_run.max(41);
         }
+        let script = walk(&mut rng, temper);
+        cover.count_script(&script);
+        scripts.push(script);
+    }
+    for _ in 0..WARM_WALKS {
+        let temper = Temper { warm: 60, ..Temper::random(&mut rng, 350) };
         let script = walk(&mut rng, temper);
         cover.count_script(&script);
         scripts.push(script);

@@ -12,10 +12,12 @@ use crate::generate::id_marks::{IdMark, IdMarks};
 use crate::generate::link_marks::{LinkMark, LinkMarks};
 use crate::generate::marks::{Mark, Marks};
 use crate::generate::turn_cells::{TurnCell, TurnCells};
+use crate::generate::warm_marks::{WarmMark, WarmMarks};
 use crate::header;
 use crate::link::Link;
 use crate::node::{Node, Phase, State};
 use crate::segment::Segment;
+use crate::warm::ReadOut;
 
 /// A node's state as far as it decides what an event does.
 #[derive(Clone, Copy, Debug, PartialEq, Eq, PartialOrd, Ord)]
@@ -89,6 +91,10 @@ pub enum Event {
     EnquiryTaken {
         all: bool,
     },
+    /// A power-on by 0A that is accepted, with flag 1 or 0.
+    WarmOnTaken {
+        warm: bool,
+    },
     /// A frame of this case is delivered.
     Deliver(Case),
     /// The same with this bit 28: own alias and CID, own alias and other, AME or AMD to heed.
@@ -110,6 +116,12 @@ pub enum Event {
     LinkRefused(u8),
     /// A choice is made.
     Choice(Look),
+    /// The node is read out, its first alias past or not.
+    ReadOut {
+        past: bool,
+    },
+    /// A read-out at its index is refused.
+    ReadOutRefused(u8),
 }
 
 /// What a choice does at a node: names it, goes on since it has no due frame, or ends before it.
@@ -143,7 +155,7 @@ pub enum Heed {
 }
 
 /// Each refusal that a command at an index can give; 0 is accepted. 1 is no node's.
-pub const ANSWERS: [(u8, &[u8]); 8] = [
+pub const ANSWERS: [(u8, &[u8]); 9] = [
     (1, &[0, 3, 15]),
     (2, &[0, 2, 4, 5]),
     (3, &[0, 2, 4]),
@@ -152,6 +164,7 @@ pub const ANSWERS: [(u8, &[u8]); 8] = [
     (7, &[0, 2, 7, 8, 9]),
     (8, &[2, 7, 8, 9]),
     (9, &[0, 2, 7]),
+    (10, &[3, 15, 18]),
 ];
 
 impl Event {
@@ -161,6 +174,7 @@ impl Event {
             events.extend(refusals.iter().map(|&refusal| Event::Answer(byte, refusal)));
         }
         events.extend([true, false].map(|all| Event::EnquiryTaken { all }));
+        events.extend([true, false].map(|warm| Event::WarmOnTaken { warm }));
         events.extend(Case::ALL.map(Event::Deliver));
         let heeds = [Heed::OwnCid, Heed::OwnOther, Heed::Ame, Heed::Amd];
         for bit_28 in [false, true] {
@@ -172,6 +186,8 @@ impl Event {
         }
         events.extend([2, 14].map(Event::LinkRefused));
         events.extend(Look::ALL.map(Event::Choice));
+        events.extend([false, true].map(|past| Event::ReadOut { past }));
+        events.push(Event::ReadOutRefused(2));
         events.sort();
         events
     }
@@ -209,16 +225,17 @@ pub fn impossible(row: Row, event: Event) -> Option<&'static str> {
     let host = matches!(row, Row::Permitted { host: true, .. });
     match (row, event) {
         (_, Event::BusFrame | Event::ForeignFrame | Event::Answer(5, 0)) => None,
-        (_, Event::Answer(1, _) | Event::Choice(Look::NotReached)) => None,
+        (_, Event::Answer(1 | 10, _) | Event::WarmOnTaken { .. }) => None,
+        (_, Event::Choice(Look::NotReached)) => None,
         (_, Event::Choice(Look::Named)) => {
             reason(!row.has_due(), "a choice names no node without a due frame")
         }
         (_, Event::Choice(Look::PassedOver)) => {
             reason(row.has_due(), "a choice passes over no node with a due frame")
         }
-        (Row::Off, Event::Answer(_, 2) | Event::LinkRefused(2)) => None,
+        (Row::Off, Event::Answer(_, 2) | Event::LinkRefused(2) | Event::ReadOutRefused(2)) => None,
         (Row::Off, _) => Some("Off answers every command but power-on and tick by 2"),
-        (_, Event::Answer(_, 2) | Event::LinkRefused(2)) => {
+        (_, Event::Answer(_, 2) | Event::LinkRefused(2) | Event::ReadOutRefused(2)) => {
             Some("2 is Off's alone, and no node turns Off")
         }
         (_, Event::Answer(2 | 3, 4)) => reason(row.has_due(), "a frame is due, so not 4"),
@@ -234,10 +251,14 @@ pub fn impossible(row: Row, event: Event) -> Option<&'static str> {
     }
 }
 
-/// Whether a script may reach a cell: it has no choice and no link order, and so no error report
-/// waits in it.
+/// Whether a script may reach a cell: it has no choice, no read-out and no link order, and so no error
+/// report waits in it.
 pub fn in_scripts(row: Row, event: Event) -> bool {
-    let no_byte = matches!(event, Event::Link { .. } | Event::LinkRefused(_) | Event::Choice(_));
+    let no_byte = match event {
+        Event::Link { .. } | Event::LinkRefused(_) | Event::Choice(_) => true,
+        Event::ReadOut { .. } | Event::ReadOutRefused(_) => true,
+        _ => false,
+    };
     !no_byte && !matches!(row, Row::Permitted { error: true, .. })
 }
 
@@ -254,7 +275,10 @@ pub struct Coverage {
     pub cells: BTreeMap<(Row, Event), u64>,
     pub marks: Marks,
     pub links: LinkMarks,
+    /// Those of power-ons by 01, and of those by 0A.
     pub ids: IdMarks,
+    pub warm_ids: IdMarks,
+    pub warm: WarmMarks,
     pub turns: TurnCells,
     /// How often each cell was met, shown or not.
     pub met: BTreeMap<(Row, Event), u64>,
@@ -292,8 +316,20 @@ pub fn index_of(command: &Command) -> Option<usize> {
         | Command::Message { index, .. }
         | Command::Enquiry { index, .. }
         | Command::Release { index }
-        | Command::Link { index, .. } => Some(usize::from(index)),
+        | Command::Link { index, .. }
+        | Command::WarmOn { index, .. }
+        | Command::ReadOut { index } => Some(usize::from(index)),
         Command::Tick | Command::Foreign { .. } | Command::Choose => None,
+    }
+}
+
+/// The index and the Node ID of a power-on, by 01 or by 0A.
+pub fn power_on_of(command: &Command) -> Option<(usize, u64)> {
+    match *command {
+        Command::PowerOn { index, id } | Command::WarmOn { index, id, .. } => {
+            Some((index.into(), id))
+        }
+        _ => None,
     }
 }
 
@@ -336,6 +372,8 @@ impl Coverage {
         self.marks.count_end(segment);
         self.links.count_end();
         self.ids.count_end();
+        self.warm_ids.count_end();
+        self.warm.count_end();
         self.turns.count_end();
         self.pending = Default::default();
     }
@@ -347,7 +385,9 @@ impl Coverage {
         let answer = segment.carry_out(command);
         self.marks.count_after(segment, command, &answer);
         self.links.count(before.node.as_ref(), segment, command, &answer);
-        self.ids.count(before.node.as_ref(), segment, command, &answer);
+        self.ids.count(1, before.node.as_ref(), segment, command, &answer);
+        self.warm_ids.count(10, before.node.as_ref(), segment, command, &answer);
+        self.warm.count(before.node.as_ref(), segment, command, &answer);
         let due = before.rows.map(Row::has_due);
         self.turns.count((before.mark, due), before.node.as_ref(), segment, command, &answer);
         let refusal = answer.as_ref().map_or_else(|refusal| refusal.number(), |_| 0);
@@ -396,7 +436,8 @@ impl Coverage {
         *self.met.entry(cell).or_default() += 1;
         let at_once = match cell {
             (_, Event::Answer(2, 4 | 5)) => true,
-            (Row::Off, event) => event != Event::Answer(1, 0),
+            (Row::Off, Event::Answer(1, 0) | Event::WarmOnTaken { .. }) => false,
+            (Row::Off, _) => true,
             _ => false,
         };
         if at_once {
@@ -439,8 +480,22 @@ impl Coverage {
         Mark::all().into_iter().filter(|mark| !self.marks.met(mark)).collect()
     }
 
-    pub fn missing_id_marks(&self) -> Vec<IdMark> {
-        IdMark::all().into_iter().filter(|mark| !self.ids.met(mark)).collect()
+    /// Each with the byte of the power-ons that did not meet it.
+    pub fn missing_id_marks(&self) -> Vec<(u8, IdMark)> {
+        let missing = |byte, marks: &IdMarks| -> Vec<(u8, IdMark)> {
+            let all = IdMark::all().into_iter();
+            all.filter(|mark| !marks.met(mark)).map(|mark| (byte, mark)).collect()
+        };
+        [missing(1, &self.ids), missing(10, &self.warm_ids)].concat()
+    }
+
+    pub fn missing_warm_marks(&self) -> Vec<WarmMark> {
+        WarmMark::all().into_iter().filter(|mark| !self.warm.met(mark)).collect()
+    }
+
+    /// Without those of read-outs, which no script can carry.
+    pub fn missing_warm_marks_of_scripts(&self) -> Vec<WarmMark> {
+        self.missing_warm_marks().into_iter().filter(WarmMark::in_scripts).collect()
     }
 
     pub fn missing_link_marks(&self) -> Vec<LinkMark> {
@@ -469,27 +524,34 @@ fn events(before: &Before, command: &Command, refusal: u8) -> Vec<(usize, Event)
         _ => {}
     }
     let place = index_of(command).expect("all other commands name an index");
+    let node = before.node.as_ref().expect("no index was refused by 1");
     match *command {
         Command::Deliver { .. } if refusal == 0 => {
-            let (node, frame) = (before.node.expect("a node"), before.front.expect("a frame"));
-            events.extend(Event::of_delivery(&frame, &node).into_iter().map(|e| (place, e)));
+            let frame = before.front.expect("a frame");
+            events.extend(Event::of_delivery(&frame, node).into_iter().map(|e| (place, e)));
         }
-        Command::Enquiry { len, .. } if refusal == 0 => {
-            events.push((place, Event::EnquiryTaken { all: len == 0 }));
-        }
-        Command::Link { state, .. } => {
-            let was = before.node.expect("a node").link_state();
-            let link = |is| Event::Link { was, is };
-            let taken = Link::of(state).ok().filter(|_| refusal == 0);
-            events.push((place, taken.map_or(Event::LinkRefused(refusal), link)));
-        }
-        _ => {
-            let byte = command.byte().expect("all others have one");
-            events.push((place, Event::Answer(byte, refusal)));
-        }
+        _ => events.push((place, event_at(node, command, refusal))),
     }
     if matches!(command, Command::Send { .. }) && refusal == 0 {
         events.extend(everywhere(Event::BusFrame).filter(|&(other, _)| other != place));
     }
     events
+}
+
+/// What a command that delivers nothing was for the node at its index, as that was before.
+fn event_at(node: &Node, command: &Command, refusal: u8) -> Event {
+    match *command {
+        Command::Enquiry { len, .. } if refusal == 0 => Event::EnquiryTaken { all: len == 0 },
+        Command::WarmOn { flag, .. } if refusal == 0 => Event::WarmOnTaken { warm: flag == 1 },
+        Command::ReadOut { .. } => {
+            let past = |read: ReadOut| Event::ReadOut { past: read.past };
+            node.read_out().map_or(Event::ReadOutRefused(refusal), past)
+        }
+        Command::Link { state, .. } => {
+            let link = |is| Event::Link { was: node.link_state(), is };
+            let taken = Link::of(state).ok().filter(|_| refusal == 0);
+            taken.map_or(Event::LinkRefused(refusal), link)
+        }
+        _ => Event::Answer(command.byte().expect("all others have one"), refusal),
+    }
 }

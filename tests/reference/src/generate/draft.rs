@@ -9,7 +9,7 @@ use crate::segment::Segment;
 
 /// Each method that writes a command leaves the answer in `answer`.
 pub struct Draft {
-    /// The script: all of the list but its link orders and choices.
+    /// The script: all of the list but its link orders, choices and read-outs.
     pub bytes: Vec<u8>,
     pub list: Vec<Command>,
     pub segment: Segment,
@@ -87,6 +87,14 @@ impl Draft {
 
     pub fn choose(&mut self) -> &mut Draft {
         self.push(Command::Choose)
+    }
+
+    pub fn warm_on(&mut self, index: u8, id: u64, flag: u8, state: u64) -> &mut Draft {
+        self.push(Command::WarmOn { index, id, flag, state })
+    }
+
+    pub fn read_out(&mut self, index: u8) -> &mut Draft {
+        self.push(Command::ReadOut { index })
     }
 
     /// The alias of a node, in any state.

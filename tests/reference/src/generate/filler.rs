@@ -2,7 +2,7 @@
 
 use std::collections::BTreeMap;
 
-use crate::alias::Alias;
+use crate::alias::{Alias, MAX_48};
 use crate::command::Command;
 use crate::frame::Frame;
 use crate::generate::cases::Case;
@@ -33,7 +33,7 @@ pub struct Filler<'a> {
     events: Vec<Event>,
     /// Rows in which a node stands ready for the last part.
     taken: Vec<Row>,
-    /// Whether it is a list, in which there may be link orders and choices, and no script.
+    /// Whether it is a list, in which there may be link orders, choices and read-outs, and no script.
     is_list: bool,
 }
 
@@ -88,13 +88,26 @@ impl Filler<'_> {
         let _ = self.cover.carry_out(&mut self.draft.segment, &command);
     }
 
+    /// In a list some are by 0A, so that nodes whose first alias is past come to every state.
     fn power_on(&mut self, index: u8) {
-        let id = 0x0501_0101_0000 + self.rng.number() % 0x1_0000;
+        let id = self.some_id();
+        if self.is_list && self.rng.percent(40) {
+            return self.warm_on(index, id, 1);
+        }
         self.push(Command::PowerOn { index, id });
     }
 
-    /// A power-on under the Node ID of another node, which is switched on for it if there is none.
-    fn power_on_in_use(&mut self, index: u8) {
+    fn some_id(&mut self) -> u64 {
+        0x0501_0101_0000 + self.rng.number() % 0x1_0000
+    }
+
+    fn warm_on(&mut self, index: u8, id: u64, flag: u8) {
+        let state = self.rng.number() & MAX_48;
+        self.push(Command::WarmOn { index, id, flag, state });
+    }
+
+    /// The Node ID of another node, which is switched on for it if there is none.
+    fn id_in_use(&mut self, index: u8) -> u64 {
         let others = |draft: &Draft| -> Vec<u8> {
             draft.on().into_iter().filter(|&other| other != index).collect()
         };
@@ -102,8 +115,7 @@ impl Filler<'_> {
             self.power_on((index + 1) % Segment::PLACES as u8);
         }
         let other = self.rng.pick(&others(&self.draft));
-        let id = self.draft.segment.node(usize::from(other)).id();
-        self.push(Command::PowerOn { index, id });
+        self.draft.segment.node(usize::from(other)).id()
     }
 
     fn row(&self, index: u8) -> Row {
@@ -127,9 +139,15 @@ impl Filler<'_> {
         events.filter(|&event| self.is_wanted(row, event)).collect()
     }
 
-    /// Whether an event can be done at a node with the link state that it has.
+    /// Whether an event can be done at a node with the link state and the generator that it has.
     fn fits(&self, index: u8, event: Event) -> bool {
-        !matches!(event, Event::Link { was, .. } if was != self.link(index))
+        match event {
+            Event::Link { was, .. } => was == self.link(index),
+            Event::ReadOut { past } => {
+                self.draft.segment.read_out(index.into()).is_ok_and(|read| read.past == past)
+            }
+            _ => true,
+        }
     }
 
     fn link(&self, index: u8) -> Link {
@@ -236,6 +254,13 @@ impl Filler<'_> {
                 self.push(Command::Link { index, state });
             }
             Event::Choice(look) => self.choose_until(index, look),
+            Event::WarmOnTaken { warm } => {
+                let id = self.some_id();
+                self.warm_on(index, id, warm.into());
+            }
+            Event::ReadOut { .. } | Event::ReadOutRefused(_) => {
+                self.push(Command::ReadOut { index });
+            }
         }
     }
 
@@ -256,7 +281,11 @@ impl Filler<'_> {
         let nine = refusal == 9;
         match byte {
             1 if refusal == 3 => self.push(Command::PowerOn { index, id: 0 }),
-            1 if refusal == 15 => self.power_on_in_use(index),
+            1 if refusal == 15 => {
+                let id = self.id_in_use(index);
+                self.push(Command::PowerOn { index, id });
+            }
+            10 => self.refused_warm_on(index, refusal),
             1 => self.power_on(index),
             2 => self.push(Command::Send { index }),
             3 => self.push(Command::FailedSend { index }),
@@ -270,6 +299,23 @@ impl Filler<'_> {
             8 if nine => self.enquire(index, 7),
             8 => self.enquire(index, 0),
             _ => self.push(Command::Release { index }),
+        }
+    }
+
+    /// A power-on by 0A that is refused so.
+    fn refused_warm_on(&mut self, index: u8, refusal: u8) {
+        let flag = self.rng.pick(&[0, 1]);
+        let any = self.rng.between(2, 255) as u8;
+        match refusal {
+            3 => self.warm_on(index, 0, flag),
+            15 => {
+                let id = self.id_in_use(index);
+                self.warm_on(index, id, flag);
+            }
+            _ => {
+                let (id, flag) = (self.some_id(), self.rng.pick(&[2, 2, 255, any]));
+                self.warm_on(index, id, flag);
+            }
         }
     }
 
@@ -539,6 +585,7 @@ fn changes(row: Row, event: Event) -> bool {
     let testing = matches!(row, Row::Check(_) | Row::Wait | Row::Reserve);
     let heed = match event {
         Event::Answer(1 | 2 | 7 | 9, 0) | Event::EnquiryTaken { .. } => return true,
+        Event::WarmOnTaken { .. } => return true,
         Event::Answer(3, 0) => return testing,
         Event::Link { was, is } => return was != is,
         Event::Deliver(case) => Heed::of(case),

@@ -5,6 +5,7 @@
 use std::collections::{BTreeMap, BTreeSet};
 
 use crate::command::{Answer, Command};
+use crate::generate::coverage::power_on_of;
 use crate::generate::marks::{full_inboxes, sort_of_kind, sort_owed, Sort, SORTS};
 use crate::inbox::Inbox;
 use crate::node::{Node, State};
@@ -78,22 +79,25 @@ impl IdMarks {
         *self = IdMarks { counts: std::mem::take(&mut self.counts), ..IdMarks::default() };
     }
 
-    /// What a command was, with its node before it and the segment after it.
+    /// What a command was, with its node before it and the segment after it. Power-ons with this byte
+    /// count; others are followed.
     pub fn count(
         &mut self,
+        byte: u8,
         before: Option<&Node>,
         segment: &Segment,
         command: &Command,
         answer: &Answer,
     ) {
+        if let Some((index, id)) = power_on_of(command) {
+            let counts = command.byte() == Some(byte);
+            match (answer, before) {
+                (Ok(_), Some(before)) => self.powered(counts, before, segment, (index, id)),
+                (Err(Refusal::NodeIdInUse), _) if counts => self.in_use(segment, index, id),
+                _ => {}
+            }
+        }
         match (*command, answer, before) {
-            (Command::PowerOn { index, id }, Ok(_), Some(before)) => {
-                self.powered(before, index.into(), id);
-                self.count_apart(segment, id);
-            }
-            (Command::PowerOn { index, id }, Err(Refusal::NodeIdInUse), _) => {
-                self.in_use(segment, index.into(), id);
-            }
             (Command::Deliver { index }, Ok(_), _) => self.delivered(segment, index.into()),
             (_, Err(Refusal::InboxFull), _) => self.jammed(&full_inboxes(segment, command)),
             (Command::Tick, _, _) => self.ticked(segment),
@@ -129,19 +133,30 @@ impl IdMarks {
         }
     }
 
-    fn powered(&mut self, before: &Node, index: usize, id: u64) {
+    fn powered(
+        &mut self,
+        counts: bool,
+        before: &Node,
+        segment: &Segment,
+        (index, id): (usize, u64),
+    ) {
         self.refused[index] = None;
+        if counts {
+            self.count_powered(before, segment, (index, id));
+        }
+        if !before.is_off() && before.id() != id {
+            self.given_up.insert((before.id(), index));
+        }
+    }
+
+    fn count_powered(&mut self, before: &Node, segment: &Segment, (index, id): (usize, u64)) {
         if self.given_up.iter().any(|&(earlier, at)| earlier == id && at != index) {
             self.count_one(IdMark::GivenUp);
         }
-        if before.is_off() {
-            return;
-        }
-        if before.id() == id {
+        if !before.is_off() && before.id() == id {
             self.count_one(IdMark::OwnAgain(before.state()));
-        } else {
-            self.given_up.insert((before.id(), index));
         }
+        self.count_apart(segment, id);
     }
 
     fn count_apart(&mut self, segment: &Segment, id: u64) {

@@ -32,7 +32,7 @@ pub fn lists(seed: u64) -> Vec<Vec<Command>> {
 type Act = fn(&mut Draft);
 
 /// A node in this state; what happens before it is told its link state; and after that.
-const WAYS: [(State, Act, Act); 8] = [
+const WAYS: [(State, Act, Act); 9] = [
     (State::Testing, nothing, nothing),
     (State::Testing, nothing, fail),
     (State::Testing, nothing, collide),
@@ -41,6 +41,7 @@ const WAYS: [(State, Act, Act); 8] = [
     (State::Permitted, nothing, collide),
     (State::Permitted, collide, nothing),
     (State::Permitted, nothing, power_on),
+    (State::Permitted, nothing, warm_on),
 ];
 
 fn nothing(_: &mut Draft) {}
@@ -55,6 +56,10 @@ fn collide(draft: &mut Draft) {
 
 fn power_on(draft: &mut Draft) {
     draft.power_on(3, 0x0501_0101_0102);
+}
+
+fn warm_on(draft: &mut Draft) {
+    draft.warm_on(3, 0x0501_0101_0102, 1, 0x0501_0101_0102);
 }
 
 /// A link state that a node is told on its way to Permitted, and the next that it is told there.

@@ -26,8 +26,8 @@ pub enum LinkMark {
     ToldIn(State),
     /// A report by a link state, not 0, that was kept through a restart from this state.
     KeptThroughRestart(State),
-    /// A report by the 0 of a power-on, after another link state.
-    SetBack,
+    /// A report by the 0 of a power-on, by 01 or by 0A, after another link state.
+    SetBack { by_0a: bool },
 }
 
 #[derive(Clone, Copy, Debug, PartialEq, Eq, PartialOrd, Ord)]
@@ -36,6 +36,7 @@ pub enum Cause {
     Release,
     Silent,
     PowerOn,
+    WarmOn,
 }
 
 /// Which report can take the place of which: reports 0 and 1 leave the link at 1, reports 2 and 3 at
@@ -58,12 +59,14 @@ const REPLACED: [(u8, u8); 12] = [
 impl LinkMark {
     /// All that lists must meet. 1 and 2 cannot hold at once: no node has an index that 1 refuses.
     pub fn all() -> Vec<LinkMark> {
-        let mut marks = vec![LinkMark::Order(1, 14), LinkMark::Order(2, 14), LinkMark::SetBack];
+        let mut marks = vec![LinkMark::Order(1, 14), LinkMark::Order(2, 14)];
+        marks.extend([false, true].map(|by_0a| LinkMark::SetBack { by_0a }));
         marks.extend([0, 1, 2, 14].map(LinkMark::Answer));
         marks.extend([0, 1, 2, 3].map(LinkMark::Left));
         marks.extend(REPLACED.map(|(first, second)| LinkMark::Replaced(first, second)));
-        let causes = [Cause::Collision, Cause::Release, Cause::Silent, Cause::PowerOn];
+        let causes = [Cause::Collision, Cause::Release, Cause::Silent];
         marks.extend(causes.map(LinkMark::Dropped));
+        marks.extend([Cause::PowerOn, Cause::WarmOn].map(LinkMark::Dropped));
         let told = [State::Testing, State::Reserved, State::Permitted, State::Leaving];
         marks.extend(told.map(LinkMark::ToldIn));
         let restarts = [State::Testing, State::Reserved, State::Leaving];
@@ -80,8 +83,8 @@ struct Origin {
     told: Option<State>,
     /// The state of its last restart since then.
     restarted: Option<State>,
-    /// Whether it is the 0 of a power-on, after another link state.
-    set_back: bool,
+    /// Whether it is the 0 of a power-on, after another link state: by 0A, or by 01.
+    set_back: Option<bool>,
 }
 
 /// Counts of link marks, with what must be remembered from one command to the next.
@@ -142,6 +145,7 @@ impl LinkMarks {
         let Some(first) = before.waiting().error else { return };
         let fate = match (command, after.state()) {
             (Command::PowerOn { .. }, _) => Some(LinkMark::Dropped(Cause::PowerOn)),
+            (Command::WarmOn { .. }, _) => Some(LinkMark::Dropped(Cause::WarmOn)),
             (Command::Release { .. }, _) => Some(LinkMark::Dropped(Cause::Release)),
             (Command::Deliver { .. }, State::Leaving) => Some(LinkMark::Dropped(Cause::Collision)),
             (Command::Send { .. }, State::Silent) => Some(LinkMark::Dropped(Cause::Silent)),
@@ -157,8 +161,10 @@ impl LinkMarks {
     fn count_origin(&mut self, place: usize, before: &Node, after: &Node, command: &Command) {
         let known = before.link_state() != Link::ErrorActive;
         match command {
-            Command::PowerOn { .. } => {
-                self.origins[place] = Origin { set_back: known, ..Origin::default() };
+            Command::PowerOn { .. } | Command::WarmOn { .. } => {
+                let by_0a = matches!(command, Command::WarmOn { .. });
+                let set_back = known.then_some(by_0a);
+                self.origins[place] = Origin { set_back, ..Origin::default() };
             }
             Command::Link { .. } => {
                 let reports = before.link_state().report(after.link_state()).is_some();
@@ -180,8 +186,8 @@ impl LinkMarks {
             origin.told.into_iter().for_each(|state| self.add(LinkMark::ToldIn(state)));
             let restarted = origin.restarted.into_iter();
             restarted.for_each(|state| self.add(LinkMark::KeptThroughRestart(state)));
-        } else if origin.set_back {
-            self.add(LinkMark::SetBack);
+        } else if let Some(by_0a) = origin.set_back {
+            self.add(LinkMark::SetBack { by_0a });
         }
     }
 }

@@ -4,7 +4,7 @@ use std::collections::BTreeMap;
 
 use crate::command::{Answer, Command, OPERANDS};
 use crate::frame::{Frame, ELEVEN_BIT, EXTENDED, REMOTE};
-use crate::generate::coverage::index_of;
+use crate::generate::coverage::{index_of, power_on_of};
 use crate::header::{self, Header, Kind, FIELD_MAX};
 use crate::inbox::Inbox;
 use crate::node::{Node, Owed, Phase, State};
@@ -106,7 +106,7 @@ pub(crate) const SORTS: [Sort; 5] =
     [Sort::Extended, Sort::Remote, Sort::ElevenBit, Sort::Reply, Sort::Amr];
 
 /// Every answer that each command can give.
-const ANSWERS: [(u8, &[u8]); 9] = [
+const ANSWERS: [(u8, &[u8]); 10] = [
     (1, &[0, 1, 3, 15]),
     (2, &[0, 1, 2, 4, 5]),
     (3, &[0, 1, 2, 4]),
@@ -116,12 +116,13 @@ const ANSWERS: [(u8, &[u8]); 9] = [
     (7, &[0, 1, 2, 7, 8, 9]),
     (8, &[0, 1, 2, 7, 8, 9]),
     (9, &[0, 1, 2, 7]),
+    (10, &[0, 1, 3, 15, 18]),
 ];
 
 /// Every pair of refusals of a command whose conditions can hold at once. 7 and 8 cannot:
 /// a host frame waits only in Permitted. Nor can 3 and 15: no node has a Node ID that 3 refuses. Nor
 /// can 2 and 4 to 8 be told from 2 alone.
-const ORDERS: [(u8, u8, u8); 13] = [
+const ORDERS: [(u8, u8, u8); 18] = [
     (1, 1, 3),
     (1, 1, 15),
     (2, 2, 5),
@@ -135,6 +136,11 @@ const ORDERS: [(u8, u8, u8); 13] = [
     (8, 2, 9),
     (8, 9, 7),
     (8, 9, 8),
+    (10, 1, 3),
+    (10, 1, 15),
+    (10, 1, 18),
+    (10, 3, 18),
+    (10, 15, 18),
 ];
 
 /// The edges of the field's ranges.
@@ -143,7 +149,7 @@ pub const FIELD_EDGES: [u16; 22] = [
     0x0713, 0x0714, 0x0FFF, 0x1000, 0x1FFF, 0x2000, 0x3FFF, 0x4000, 0x7000, 0x7FFF,
 ];
 
-const UNKNOWN: [u8; 6] = [0x00, 0x0A, 0x0B, 0x10, 0x81, 0xFF];
+pub const UNKNOWN: [u8; 6] = [0x00, 0x0B, 0x0C, 0x10, 0x81, 0xFF];
 
 impl Mark {
     /// All that a corpus must meet.
@@ -319,7 +325,9 @@ impl Marks {
     fn after_accepted(&mut self, segment: &Segment, command: &Command) {
         match *command {
             Command::Tick if segment.is_late() && !self.was_late => self.turned_late(segment),
-            Command::PowerOn { index, .. } => self.after_power_on(segment, usize::from(index)),
+            Command::PowerOn { index, .. } | Command::WarmOn { index, .. } => {
+                self.after_power_on(segment, usize::from(index));
+            }
             // Only the duplicate report makes its sender Silent.
             Command::Send { index } => {
                 let sender = usize::from(index);
@@ -432,10 +440,14 @@ fn conditions(segment: &Segment, command: &Command) -> Vec<u8> {
     let seven = node.is_some_and(|node| !node.is_off() && node.state() != State::Permitted);
     let eight = node.is_some_and(|node| node.waiting().host.is_some());
     let four = node.is_some_and(|node| !node.is_off() && node.due().is_none());
+    let id = power_on_of(command).map(|(_, id)| id);
+    let three = id == Some(0);
+    let holds = |id| segment.holders(id).any(|holder| Some(holder) != place);
+    let fifteen = id.is_some_and(holds);
     let held: Vec<(u8, bool)> = match *command {
-        Command::PowerOn { id, .. } => {
-            let fifteen = segment.holders(id).any(|holder| Some(holder) != place);
-            vec![(1, one), (3, id == 0), (15, fifteen)]
+        Command::PowerOn { .. } => vec![(1, one), (3, three), (15, fifteen)],
+        Command::WarmOn { flag, .. } => {
+            vec![(1, one), (3, three), (15, fifteen), (18, flag > 1)]
         }
         Command::Send { .. } => vec![(1, one), (2, two), (4, four), (5, full)],
         Command::Foreign { frame } => vec![(9, !frame.well_formed()), (5, full)],

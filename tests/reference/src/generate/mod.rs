@@ -22,3 +22,6 @@ pub mod turn_cells;
 pub mod turn_lists;
 pub mod twin;
 pub mod walker;
+pub mod warm_lists;
+pub mod warm_marks;
+pub mod warm_scripts;

@@ -1,10 +1,11 @@
-//! Scripts written on purpose: each one tells a story that document 01, request A.6 or 002 suggests.
+//! Scripts written on purpose: each one tells a story that document 01, a request or 002 suggests.
 
 use crate::alias::{self, Alias, ALIASES, MAX_48};
 use crate::command::{Command, OPERANDS};
 use crate::frame::{Frame, ELEVEN_BIT, REMOTE};
 use crate::generate::draft::Draft;
-use crate::generate::marks::FIELD_EDGES;
+use crate::generate::marks::{FIELD_EDGES, UNKNOWN};
+use crate::generate::warm_scripts;
 use crate::header::{self, Header, AMD, AME, AMR, RID};
 use crate::inbox::Inbox;
 use crate::node::State;
@@ -32,6 +33,9 @@ pub fn all() -> Vec<Vec<u8>> {
     scripts.extend(wiring_lists());
     scripts.extend([enquiry_lengths(), long_stream(), duplicates(), second_reply()]);
     scripts.extend([malformed_frames(), crossing_reservations(), all_off(), impatient()]);
+    scripts.extend(wiring_lists().iter().map(|script| warm_scripts::by_0a(script)));
+    scripts.push(warm_scripts::by_0a(&full_inbox(State::Permitted)));
+    scripts.extend(warm_scripts::all());
     scripts
 }
 
@@ -55,7 +59,7 @@ fn cut_commands() -> Vec<Vec<u8>> {
 
 fn unknown_commands() -> Vec<Vec<u8>> {
     let mut scripts = Vec::new();
-    for byte in [0x00, 0x0A, 0x0B, 0x10, 0x81, 0xFF] {
+    for byte in UNKNOWN {
         let mut late = Draft::new();
         let _ = late.power_on(23, ID);
         let _ = late.idle_frame();
@@ -121,6 +125,12 @@ fn standard_frames() -> Vec<u8> {
 pub(crate) fn in_state(state: State) -> Draft {
     let mut draft = Draft::new();
     draft.power_on(3, ID);
+    to_state(&mut draft, state);
+    draft
+}
+
+/// Brings node 3, alone and Testing, to this state.
+pub(crate) fn to_state(draft: &mut Draft, state: State) {
     match state {
         State::Off | State::Testing => {}
         State::Reserved => {
@@ -142,7 +152,6 @@ pub(crate) fn in_state(state: State) -> Draft {
         }
         _ => {}
     }
-    draft
 }
 
 /// A frame that stands 40 ticks and one that stands 41, by state and by kind.

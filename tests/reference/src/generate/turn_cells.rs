@@ -41,6 +41,11 @@ pub enum Act {
     PoweredOn,
     PowerOnRefused,
     AnotherPoweredOn,
+    /// The same three by 0A.
+    WarmedOn,
+    WarmOnRefused,
+    AnotherWarmedOn,
+    ReadOut,
     Message,
     Enquiry,
     Release,
@@ -51,7 +56,7 @@ pub enum Act {
     Nobody,
 }
 
-const ACTS: [Act; 16] = [
+const ACTS: [Act; 20] = [
     Act::Sent,
     Act::SendRefusedBy5,
     Act::Failed { restarts: false },
@@ -61,6 +66,10 @@ const ACTS: [Act; 16] = [
     Act::PoweredOn,
     Act::PowerOnRefused,
     Act::AnotherPoweredOn,
+    Act::WarmedOn,
+    Act::WarmOnRefused,
+    Act::AnotherWarmedOn,
+    Act::ReadOut,
     Act::Message,
     Act::Enquiry,
     Act::Release,
@@ -101,12 +110,16 @@ fn act(
         (Command::Tick, _) => Act::Tick,
         (Command::Foreign { .. }, Ok(_)) => Act::Foreign,
         (Command::PowerOn { .. }, Ok(_)) if !at_marked => Act::AnotherPoweredOn,
+        (Command::WarmOn { .. }, Ok(_)) if !at_marked => Act::AnotherWarmedOn,
         _ if !at_marked => return None,
         (Command::Send { .. }, Ok(_)) => Act::Sent,
         (Command::Send { .. }, Err(Refusal::InboxFull)) => Act::SendRefusedBy5,
         (Command::PowerOn { .. }, Err(_)) => Act::PowerOnRefused,
+        (Command::WarmOn { .. }, Err(_)) => Act::WarmOnRefused,
         (_, Err(_)) => return None,
         (Command::PowerOn { .. }, _) => Act::PoweredOn,
+        (Command::WarmOn { .. }, _) => Act::WarmedOn,
+        (Command::ReadOut { .. }, _) => Act::ReadOut,
         (Command::FailedSend { .. }, _) => Act::Failed { restarts },
         (Command::Deliver { .. }, _) => Act::Delivered { restarts },
         (Command::Message { .. }, _) => Act::Message,

@@ -78,7 +78,7 @@ fn named_last_amid_others() -> Vec<Command> {
 type Way = fn(&mut Draft);
 
 /// The state of node 3, which is due and named, and what comes before the next choice.
-const BETWEEN: [(State, Way); 17] = [
+const BETWEEN: [(State, Way); 22] = [
     (State::Testing, |draft| _ = draft.send(3)),
     (State::Permitted, |draft| _ = draft.send(3)),
     (State::Permitted, jam),
@@ -91,6 +91,11 @@ const BETWEEN: [(State, Way); 17] = [
     (State::Permitted, |draft| _ = draft.power_on(3, 0)),
     (State::Permitted, |draft| _ = draft.power_on(3, OTHER)),
     (State::Permitted, |draft| _ = draft.power_on(9, OTHER + 1)),
+    (State::Testing, |draft| _ = draft.warm_on(3, ID, 0, 7)),
+    (State::Permitted, |draft| _ = draft.warm_on(3, ID, 1, 7)),
+    (State::Permitted, |draft| _ = draft.warm_on(3, ID, 2, 7)),
+    (State::Permitted, |draft| _ = draft.warm_on(9, OTHER + 1, 1, 7)),
+    (State::Permitted, |draft| _ = draft.read_out(3)),
     (State::Permitted, |draft| _ = order(draft, 3)),
     (State::Permitted, |draft| _ = draft.enquiry(3, 0, 0)),
     (State::Permitted, |draft| _ = draft.release(3)),

@@ -11,6 +11,7 @@ use crate::limits::Limits;
 use crate::node::{Node, Owed, Phase, State};
 use crate::segment::Segment;
 use crate::turns::Turns;
+use crate::warm::ReadOut;
 use crate::watch::Watch;
 
 /// How a script goes about it.
@@ -32,6 +33,10 @@ pub struct Temper {
     pub links: usize,
     /// So many are turns, likewise: a choice, and mostly the send of the node that it names.
     pub turns: usize,
+    /// So many in a hundred power-ons are by 0A.
+    pub warm: usize,
+    /// So many steps are read-outs: none in a script.
+    pub reads: usize,
 }
 
 impl Temper {
@@ -56,6 +61,8 @@ impl Temper {
             weights,
             links: 0,
             turns: 0,
+            warm: 0,
+            reads: 0,
         }
     }
 }
@@ -104,6 +111,8 @@ pub struct Walker<'a> {
     pub contested: Option<u8>,
     /// Whether an error report waited.
     pub reported: bool,
+    /// What was read out, with the Node ID.
+    noted: Vec<(u64, ReadOut)>,
 }
 
 /// A script of this temper.
@@ -141,6 +150,7 @@ impl<'a> Walker<'a> {
             most_users: 0,
             contested: None,
             reported: false,
+            noted: vec![],
         }
     }
 
@@ -187,6 +197,9 @@ impl<'a> Walker<'a> {
         if self.temper.turns > 0 && self.rng.percent(self.temper.turns) {
             return self.turn();
         }
+        if self.temper.reads > 0 && self.rng.percent(self.temper.reads) {
+            return self.read_out(index);
+        }
         match self.rng.weighted(&self.temper.weights.clone()) {
             0 => self.newcomer(index),
             1 => self.send_some(index),
@@ -221,7 +234,61 @@ impl<'a> Walker<'a> {
             let other = self.rng.below(self.temper.nodes);
             id = self.draft.segment.node(other).id();
         }
+        if self.temper.warm > 0 && self.rng.percent(self.temper.warm) {
+            return self.warm_on(index, id);
+        }
         self.push(Command::PowerOn { index, id });
+    }
+
+    /// By 0A: what was read out once is given back, or a flag and a state are given by chance.
+    fn warm_on(&mut self, index: u8, id: u64) {
+        if !self.noted.is_empty() && self.rng.percent(60) {
+            return self.give_back(index);
+        }
+        let any = self.rng.byte();
+        let flag = self.rng.pick(&[0, 0, 1, 1, 1, 1, 1, 1, 1, 2, 255, any]);
+        let state = self.state_to_give(index, id);
+        self.push(Command::WarmOn { index, id, flag, state });
+    }
+
+    /// At the index that has the Node ID; or at this one, and then that one gets another Node ID first.
+    fn give_back(&mut self, index: u8) {
+        let (id, read) = self.rng.pick(&self.noted);
+        let holder = self.draft.segment.holders(id).next().map(|place| place as u8);
+        let index = match holder {
+            Some(holder) if holder == index || self.rng.percent(50) => holder,
+            Some(holder) => {
+                let free = |id: &u64| self.draft.segment.holders(*id).next().is_none();
+                let id = (1..).find(free).expect("24 nodes hold 24 Node IDs at most");
+                self.push(Command::PowerOn { index: holder, id });
+                index
+            }
+            None => index,
+        };
+        let state = if read.past { read.state } else { self.rng.number() & MAX_48 };
+        self.push(Command::WarmOn { index, id, flag: read.flag(), state });
+    }
+
+    /// The state of the node's own generator, or of another's; one that stands for the alias of some
+    /// node; or any.
+    fn state_to_give(&mut self, index: u8, id: u64) -> u64 {
+        let other = self.rng.below(self.temper.nodes);
+        let read = |place| self.draft.segment.read_out(place).map_or(id, |read| read.state);
+        let (own, others) = (read(index.into()), read(other));
+        let alias = u64::from(self.draft.segment.node(other).alias().0);
+        let any = self.rng.number() & MAX_48;
+        self.rng.pick(&[own, own, own, others, alias, alias, alias, any, any, id, 0, MAX_48])
+    }
+
+    /// Mostly of a node that is on, and then it is noted.
+    fn read_out(&mut self, index: u8) {
+        let on = self.seek(index, |i| self.draft.state(i) != State::Off);
+        let high = self.rng.pick(&[24, 25, 128, 255, index, index]);
+        let index = if self.rng.percent(90) { on } else { high };
+        self.push(Command::ReadOut { index });
+        if let Ok(Given::ReadOut(read)) = self.draft.answer {
+            self.noted.push((self.draft.segment.node(index.into()).id(), read));
+        }
     }
 
     /// The first index from here on of which this is true, or the one itself.

@@ -3,7 +3,7 @@
 #![allow(dead_code)]
 
 use reference::generate::draft::Draft;
-use reference::{Frame, Given, Node, Refusal, Segment, State, View};
+use reference::{Frame, Given, Node, ReadOut, Refusal, Segment, State, View};
 
 /// Another seed can be given as SEED.
 pub fn seed() -> u64 {
@@ -70,5 +70,13 @@ pub fn chosen(draft: &Draft) -> Option<usize> {
     match draft.answer {
         Ok(Given::Chosen(chosen)) => chosen,
         other => panic!("it was no choice: {other:?}"),
+    }
+}
+
+/// What the last command read out.
+pub fn read(draft: &Draft) -> ReadOut {
+    match draft.answer {
+        Ok(Given::ReadOut(read)) => read,
+        other => panic!("it was no read-out: {other:?}"),
     }
 }

@@ -1,6 +1,7 @@
 use mathlib.Core.Path.{_∙_, ap}
 use Rattle.headers.specs.Rules.{drawn}
-use Rattle.node.specs.Rules.{restart, noneWaiting}
+use mathlib.Core.Bool.{true}
+use Rattle.node.specs.Rules.{generator, restart, noneWaiting}
 use Rattle.state.specs.declared.Phase.the-variants.{Testing}
 use borrow.Author.Needs.{needs}
 use Rattle.node.proofs.Node.restarted.Statement.{statement}
@@ -18,11 +19,11 @@ none-requires c κs = search needs
 returns : tie.Need-returns
 unfolding restart
 returns c =
-    let n = c .before .before .before .before .args .self in
+    let n = c .before .before .before .before .before .args .self in
     let g = c .before .before .before .step-from .ensures in
     let a = c .before .before .drawn-from .ensures ∙ ap drawn g in
     simp (c .none .ensures)
-    (λ i. record { own = n .own; alias = record { 0 = a i }; generator = g i; phase = Testing 0 0; waiting = noneWaiting })
+    (λ i. record { own = n .own; alias = record { 0 = a i }; generator = generator (g i) true; phase = Testing 0 0; waiting = noneWaiting })
 
 pub restarted-spec : {M : Type 1} → statement M
 restarted-spec = tie.close (tie.spec step-from-requires drawn-from-requires none-requires returns)
