@@ -1,6 +1,6 @@
 /* 24 exhibits on one breaker, as firmware would run them on a bus with other equipment: when each is up, and under which alias.
  * Beside it a map of what is seen on the bus, as a viewer keeps one, frames as text, as a viewer exchanges them, and turns. At last
- * the breaker falls, and the exhibits come back under the aliases that they had. */
+ * the breaker trips, and the exhibits come back under the aliases that they had. */
 #include "card.h"
 #include <inttypes.h>
 #include <stdio.h>
@@ -253,7 +253,7 @@ struct kept {
     int is_on;
 };
 
-/* Before the breaker falls: each exhibit that is on is read out. */
+/* Before the breaker trips: each exhibit that is on is read out. */
 static void read_out(struct kept kept[CARD_NODES]) {
     unsigned on = 0, past = 0;
     for (size_t i = 0; i < CARD_NODES; i++) {
@@ -262,7 +262,7 @@ static void read_out(struct kept kept[CARD_NODES]) {
         on += kept[i].is_on;
         past += kept[i].is_on && kept[i].out[CARD_OUT_PAST];
     }
-    printf("%6u ms  %u exhibits are read out, of %u the first alias is past; the breaker falls\n", now, on, past);
+    printf("%6u ms  %u exhibits are read out, of %u the first alias is past; the breaker trips\n", now, on, past);
 }
 
 /* An exhibit is given back what was read out of it. Where it does not start with its first alias, that is said. */
@@ -275,7 +275,7 @@ static void give_back(size_t exhibit, const struct kept *kept, uint64_t had) {
                had, first[0], seen(exhibit, CARD_SEEN_ALIAS));
 }
 
-/* The breaker falls, and is switched on again. Exhibits 5 and 11 were in test; 7, which rested, and 9, silent, had no alias. */
+/* The breaker trips, and is switched on again. Exhibits 5 and 11 were in test; 7, which rested, and 9, silent, had no alias. */
 static void come_back(void) {
     struct kept kept[CARD_NODES];
     uint64_t had[CARD_NODES];

@@ -2,16 +2,16 @@
 //! that --save writes.
 
 use std::fs;
+use std::io::ErrorKind;
 use std::path::Path;
 
 use crate::card::{Card, ReadOut, PLACES};
 use crate::command::Command;
-use crate::spell;
+use crate::expand::expand;
 use crate::warm::WARM;
+use crate::{play, script, spell};
 
-/// How a script begins that --save has written. What begins otherwise is not written over.
-const HEAD: &str = "# Written by --save: ";
-const ABOUT: &str = "the exhibits as a run left them. Each starts with the alias that it had, which is named\n\
+const ABOUT: &str = "# Written by --save: the exhibits as a run left them. Each starts with the alias that it had, which is named\n\
                      # behind its line, and tests it again: by warm where its first alias is past, by on where it is not.\n\
                      # To see what happens then, put lines behind these: cat THIS.lcc more.lcc | ./run - --summary\n";
 const NOBODY_ON: &str = "# No node was on.\n";
@@ -51,16 +51,28 @@ fn alias_by(command: &Command) -> u16 {
 pub fn script(card: &Card) -> String {
     let lines: String = lines(card).into_iter().map(|line| line + "\n").collect();
     let lines = if lines.is_empty() { NOBODY_ON.into() } else { lines };
-    format!("{HEAD}{ABOUT}{lines}")
+    format!("{ABOUT}{lines}")
 }
 
-/// Whether the script may be written under this name: there is no such file, or --save has written it.
+/// Whether the script may be written under this name: there is no such file, or it is as --save has written it.
 pub fn may_write(name: &Path) -> Result<(), String> {
+    let (right, file) = ("expected a new name, or a file as --save has written it", name.display());
     match fs::read(name) {
-        Ok(found) if !found.starts_with(HEAD.as_bytes()) => Err(format!(
-            "{} is there already, and --save has not written it; expected a new name, or one that --save has written",
-            name.display()
+        Err(why) if why.kind() == ErrorKind::NotFound => Ok(()),
+        Err(why) => Err(format!("cannot read {file}: {why}; {right}")),
+        Ok(found) if is_saved(&found) => Ok(()),
+        Ok(_) => Err(format!(
+            "{file} is there already, and --save has not written it, or lines were changed since; {right}"
         )),
-        _ => Ok(()),
     }
+}
+
+/// Whether a file holds what --save writes, and nothing else: played and saved again it is the same.
+fn is_saved(found: &[u8]) -> bool {
+    let text = String::from_utf8_lossy(found);
+    let lines = text.starts_with(ABOUT).then(|| script::parse(&text));
+    let Some(Ok(lines)) = lines else { return false };
+    let (expanded, mut card) = (expand(&lines), Card::new());
+    play::play(&expanded.bytes, &expanded.beside, &mut card, |_, _| {});
+    text == script(&card)
 }

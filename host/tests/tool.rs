@@ -5,7 +5,8 @@ use std::io::Write;
 use std::path::PathBuf;
 use std::process::{Command, Output, Stdio};
 
-use lcc::card::{NOBODY, PLACES, TEXT_MAX, WORDS};
+use lcc::card::{Card, NOBODY, PLACES, TEXT_MAX, WORDS};
+use lcc::save;
 
 /// Runs the tool on a script at standard input.
 fn lcc(words: &[&str], script: &str) -> Output {
@@ -410,23 +411,32 @@ fn what_is_saved_can_be_played() {
     assert!(saved.ends_with("\non 3 05.01.01.01.01.03                  # alias 265\n"), "{saved}");
 }
 
-/// --save writes over what it has written, and over nothing else; then nothing is run.
+/// --save writes over what it has written, and over nothing else, nor where a line was added or changed since; then nothing is run.
 #[test]
 fn saving_writes_over_no_other_file() {
-    for text in ["send 0\n", "", "# Written by hand\n"] {
+    let saved = save::script(&Card::new());
+    let with_a_line = format!("{saved}settle 3\n");
+    let with_a_comment = saved.replace("# No node was on.", "# No node was on, on Monday.");
+    for text in ["send 0\n", "", "# Written by hand\n", &with_a_line, &with_a_comment] {
         let path = file("by-hand.lcc", text);
         let name = path.to_str().expect("a plain path");
         for words in [["run", "-", "--save", name], ["run", name, "--save", name]] {
             let output = lcc(&words, "tick\n");
             assert_eq!((output.status.code(), out(&output).as_str()), (Some(2), ""), "{words:?}");
             let why = format!(
-                "lcc: {name} is there already, and --save has not written it; \
-                 expected a new name, or one that --save has written\n"
+                "lcc: {name} is there already, and --save has not written it, or lines were changed since; \
+                 expected a new name, or a file as --save has written it\n"
             );
             assert_eq!(err(&output), why);
             assert_eq!(fs::read_to_string(&path).expect("it is there"), text);
         }
     }
+    let folder = file("by-hand.lcc", &saved).with_file_name("folder.lcc");
+    fs::create_dir_all(&folder).expect("a new folder");
+    let name = folder.to_str().expect("a plain path");
+    let output = lcc(&["run", "-", "--save", name], "tick\n");
+    assert_eq!((output.status.code(), out(&output).as_str()), (Some(2), ""));
+    assert!(err(&output).starts_with(&format!("lcc: cannot read {name}: ")), "{}", err(&output));
     let output = lcc(&["run", "-", "--save", "no-such-folder/a.lcc"], "tick");
     assert_eq!((output.status.code(), out(&output).as_str()), (Some(1), ""));
     assert!(

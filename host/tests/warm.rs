@@ -284,11 +284,11 @@ fn what_is_saved_comes_back() {
     assert!(saved_lines > 200, "{saved_lines} lines");
 }
 
-/// The example, saved before its breaker falls: the lines that it then has are those that were saved.
+/// The example, saved before its breaker trips: the lines that it then has are those that were saved.
 #[test]
 fn the_example_has_what_would_be_saved() {
     let text = example("warm-start");
-    let (before, after) = text.split_once("# the breaker falls").expect("it falls");
+    let (before, after) = text.split_once("# the breaker trips").expect("it trips");
     let lines = save::lines(&moments(before, |_, _| {}));
     let given: Vec<&str> = after.lines().skip(1).take_while(|line| !line.is_empty()).collect();
     assert_eq!(lines, given);

@@ -43,7 +43,8 @@ fn bands(picture: &str, index: usize) -> Vec<Place> {
     of_class(picture, "testing").iter().filter(of_node).map(|band| Place::of_rect(band)).collect()
 }
 
-/// Each start has its sign, in the row of its node and in the middle of where a band in test begins.
+/// Each sign is a start's, in the row of its node and in the middle of where a band in test begins; and each node with a start has
+/// one. Gives how many there are.
 fn is_drawn(list: &str) -> usize {
     let (picture, starts) = (shown(list).picture, starts(list));
     let (titled, signs) = (titles(&picture, "warm"), places(&picture, &["warm"]));

@@ -1,11 +1,12 @@
 -- Warm power-on (A.9) by its flag and by what power-on alone would answer; and what is read out and given back.
 use mathlib.Core.Path.{_≡_, refl, sym, ap, _∙_}
 use mathlib.Core.Logic.{_≢_}
-use mathlib.Core.Bool.{Bool, true, false, true≢false, false≢true, cond, _&&_, _||_}
+use mathlib.Core.Bool.{Bool, true, false, true≢false, false≢true, not, cond, _&&_, _||_}
 use Prim.Native.Nat.{ℕ, _+_, _%_, _^_, _<_, _≤_}
 use native.Mathlib.Omega.{arith}
 use lib.Dec.{ltb, leb, eqb}
 use borrow.Author.Tests.{lt-ltb, lt-leb, le-leb, ne-eqb}
+use Rattle.headers.specs.Rules.{badNodeId}
 use Rattle.state.specs.Answers.{isRefused}
 use Rattle.node.specs.Rules.{
   Answer,
@@ -17,12 +18,14 @@ use Rattle.node.specs.Rules.{
   isOff,
   generator,
   fresh,
+  Value,
   done,
   resulting,
   poweredBy,
   onPowerOn,
   warm,
   badStart,
+  startOf,
   startedBy,
   onWarmOn,
 }
@@ -66,6 +69,33 @@ module _ (n : Node) (id : ℕ) where
         go : (r : Answer ℕ) → isRefused (poweredBy r n id .answer) ≡ false → startedBy r n id 1 x ≡ resulting (accepted done) n (warm id x)
         go (accepted a) e = rw (lt-leb (2 ^ 48) x h) refl
         go (refused number) e = absurd (true≢false e)
+
+-- A refusal that is tested before 15 (A.6): any but 18.
+abbrev pub isBefore15 : Answer Value → Bool
+isBefore15 (accepted v) = false
+isBefore15 (refused number) = not (eqb number 18)
+
+-- power-on is refused by 3 alone
+pub power-before-15 : (n : Node) (id : ℕ) → isRefused (onPowerOn n id .answer) ≡ true → isBefore15 (onPowerOn n id .answer) ≡ true
+unfolding onPowerOn
+power-before-15 n id e = go (badNodeId id) e
+  where
+    go : (b : Bool) → let o = poweredBy (refuse b 3 (accepted (1 + id % 4095))) n id in isRefused (o .answer) ≡ true → isBefore15 (o .answer) ≡ true
+    go true e = refl
+    go false e = absurd (false≢true e)
+
+-- where power-on is not refused, a warm one is by 18 alone
+pub warm-before-15 : (n : Node) (id flag x : ℕ) → isRefused (onPowerOn n id .answer) ≡ false → isBefore15 (onWarmOn n id flag x .answer) ≡ false
+unfolding onPowerOn onWarmOn
+warm-before-15 n id flag x e = go (firstAlias id) e
+  where
+    go : (r : Answer ℕ) → isRefused (poweredBy r n id .answer) ≡ false → isBefore15 (startedBy r n id flag x .answer) ≡ false
+    go (accepted a) e = by-18 (badStart flag x)
+      where
+        by-18 : (b : Bool) → isBefore15 (resulting (refuse b 18 (accepted done)) n (startOf id a flag x) .answer) ≡ false
+        by-18 true = refl
+        by-18 false = refl
+    go (refused number) e = absurd (true≢false e)
 
 -- the two causes of 18
 pub flag-above-1 : (flag x : ℕ) → 1 < flag → badStart flag x ≡ true

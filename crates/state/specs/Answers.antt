@@ -1,7 +1,6 @@
 -- The papers' numbers and values for each case of the code's enums.
 use Prim.Native.Nat.{ℕ}
-use mathlib.Core.Bool.{Bool, true, false, not}
-use lib.Dec.{eqb}
+use mathlib.Core.Bool.{Bool, true, false}
 use Rattle.state.specs.Rules.{Answer, accepted, refused, Due, nothing, next, Value, done, left}
 use Rattle.state.specs.declared.Refusal as R
 use Rattle.state.specs.declared.Answer as A
@@ -33,8 +32,3 @@ answerAs (A.the-variants.Refused r) = refused (refusalAs r)
 abbrev pub isRefused : Answer Value → Bool
 isRefused (accepted v) = false
 isRefused (refused number) = true
-
--- A refusal that is tested before 15: any but 18, which is tested last (A.9).
-abbrev pub isBefore15 : Answer Value → Bool
-isBefore15 (accepted v) = false
-isBefore15 (refused number) = not (eqb number 18)

@@ -2,7 +2,7 @@
 use crate::Answer;
 use crate::Refusal;
 ghost use mathlib.Core.Path.{_≡_};
-ghost use Rattle.state.specs.Answers.{refusalAs, answerAs, isRefused, isBefore15};
+ghost use Rattle.state.specs.Answers.{refusalAs, answerAs, isRefused};
 
 impl Refusal {
     // Its number in documents 01 and 02.
@@ -34,20 +34,6 @@ impl Answer {
             Answer::Accepted => false,
             Answer::Sent(_) => false,
             Answer::Refused(_) => true,
-        }
-    }
-
-    // Whether it is a refusal that is tested before 15: any but 18, which is tested last (A.9).
-    pub fn is_before_15(self) -> bool
-        ensures { λ r. ⌜ r ≡ isBefore15 (answerAs self) ⌝ }
-    {
-        match self {
-            Answer::Accepted => false,
-            Answer::Sent(_) => false,
-            Answer::Refused(r) => {
-                let last = Refusal::BadStart;
-                r.number() != last.number()
-            }
         }
     }
 }

@@ -3,12 +3,11 @@ use mathlib.Core.Path.{_≡_}
 use mathlib.Core.Bool.{false, _||_}
 use mathlib.Core.List.{List, [], _∷_, map}
 use Prim.Native.Nat.{ℕ, _-_, _%_, _<_, _≤_}
-use Rattle.node.specs.Rules.{Answer, accepted, refused, Value, done, wait, Order, Outcome, onOrder}
-use Rattle.node.specs.NodeId.{Starts}
+use Rattle.node.specs.Rules.{Answer, accepted, refused, Value, done}
 use Rattle.node.specs.declared.Generator.{Generator}
 use Rattle.state.specs.Answers.{answerAs}
 use Rattle.state.specs.declared.Answer as A
-use Rattle.segment_rules.specs.Rules.{places, limit, orders, Command, one, Choice, plain, chose, whether, given, Told, told, step, Ages, ages, ageStep, ticks, old}
+use Rattle.segment_rules.specs.Rules.{places, limit, Command, Choice, plain, chose, whether, given, Told, told, step, Ages, ages, ageStep, ticks, old}
 use Rattle.segment_rules.specs.Limits.{InLimit}
 use Rattle.pack.specs.Words.{round}
 use Rattle.table.specs.Words.{Item, nodeAt, inbox, agesOf, cellAt, lateOf, slackOf, view, viewAges, Held}
@@ -67,7 +66,3 @@ read a = record { answer = whether a; besides = given a }
 
 abbrev pub Does : Command → List ℕ → A.Answer → List ℕ → Type 0
 Does c t a t′ = Tells c t (plainly (answerAs a)) t′
-
--- A power-on of either sort at place k with this Node ID, whose node alone would have the outcome o.
-abbrev pub Begun : List ℕ → (k id : ℕ) → Outcome → Answer Value → List ℕ → Type 0
-Begun t k id o a t′ = (x : Order) → Starts id x → o ≡ onOrder wait (nodeAt t k) x → Tells (one k (orders x)) t (plainly a) t′

@@ -1,4 +1,4 @@
-//! Signs where a node is started warm, on its row: a black W. A cold start has no sign.
+//! Signs where a node is started warm, on its row: a white W on black. A cold start has no sign.
 
 use super::draw::Page;
 use super::svg::{Anchor, Svg};

@@ -241,7 +241,8 @@ fn no_other_event_changes_what_is_read_out() {
     assert!(steps > 1_000 && starts > 1_000, "{steps} steps, {starts} starts");
 }
 
-/// Read out, any commands, given back at an index that is free: the node has the alias that it had.
+/// Read out, any commands, given back at the index that has the Node ID, or at any where none has it: the
+/// node has the alias that it had.
 #[test]
 fn what_is_given_back_brings_the_alias_that_the_node_had() {
     let mut counts = [0; 2];
@@ -297,6 +298,7 @@ fn scripts_by_01_and_by_0a_print_the_same() {
         let mut bytes = Vec::new();
         whole.iter().for_each(|command| command.write(&mut bytes));
         let (by_01, by_0a) = (output(&bytes), output(&warm_scripts::by_0a(&bytes)));
+        assert_eq!(by_01.lines().count(), by_0a.lines().count());
         for ((command, line), other) in whole.iter().zip(by_01.lines()).zip(by_0a.lines()) {
             let expected = match command {
                 Command::PowerOn { .. } => line.replacen(" 01 ", " 0A ", 1),

@@ -362,11 +362,12 @@ impl Marks {
     fn after_power_on(&mut self, segment: &Segment, index: usize) {
         self.met_again &= !(1 << index);
         let node = segment.node(index);
+        let is_first = node.read_out().is_ok_and(|read| !read.past);
         let mut others = 0;
         for place in (0..Segment::PLACES).filter(|&place| place != index) {
             let other = segment.node(place);
             others += usize::from(!other.is_off());
-            if other.tested_alias() == node.tested_alias() {
+            if is_first && other.tested_alias() == node.tested_alias() {
                 self.count(Mark::EqualFirstAliases);
             }
         }

@@ -1,10 +1,10 @@
-use mathlib.Core.Path.{refl, ap, _∙_}
+use mathlib.Core.Path.{refl, sym, ap, _∙_}
 use Rattle.node.specs.Rules as N
-use Rattle.node.specs.Rules.{wait, onOrder}
-use Rattle.node.specs.NodeId.{warmly}
+use Rattle.node.specs.Rules.{onPowerOn, onWarmOn}
 use Rattle.node.specs.declared.Node.{Node}
 use Rattle.segment_rules.specs.Rules.{orders}
 use Rattle.table.proofs.Promised.{no-index}
+use Rattle.table.proofs.PoweredOn.{begin-refused, begin-in-use, begin-last, begin-done}
 use borrow.Author.Needs.{needs}
 use Rattle.table.proofs.commands.warm_on.Statement.{statement}
 use Rattle.table.proofs.commands.warm_on.Tie as tie
@@ -16,5 +16,19 @@ warm-on-spec =
     (λ c κs. search needs)
     (λ c κs. search needs)
     (λ c κs. search needs)
-    (λ c. let q = c .before .before .before .before .before .before .args in
-    c .begin .ensures (N.warmOn (q .id) (q .flag) (q .state)) warmly (c .before .before .warm-on .ensures ∙ ap (λ (n : Node). onOrder wait n (N.warmOn (q .id) (q .flag) (q .state))) (c .before .before .before .load-node .ensures))))
+    (λ c. λ h. let q = c .before .before .before .before .before .before .args in
+    begin-refused _ h (q .index) (q .id) (q .flag) (q .state) (c .before .before .before .before .before .if1 .left) _ (c .before .before .power-on .ensures ∙ ap (λ (n : Node). onPowerOn n (q .id)) (c .before .before .before .load-node .ensures))
+    (sym (c .before .is-refused .ensures) ∙ c .if2 .taken))
+    (λ c κs. search needs)
+    (λ c. λ h. let q = c .before .before .before .before .before .before .before .before .before .args in
+    begin-in-use _ h (q .index) (q .id) (q .flag) (q .state) (c .before .before .before .before .before .before .before .before .if1 .left) _ (c .before .before .before .before .before .power-on .ensures ∙ ap (λ (n : Node). onPowerOn n (q .id)) (c .before .before .before .before .before .before .load-node .ensures))
+    _ refl (sym (c .before .before .before .before .is-refused .ensures) ∙ c .before .before .before .if2 .left) (sym (c .before .is-in-use-but .ensures) ∙ c .if3 .taken))
+    (λ c κs. search needs)
+    (λ c κs. search needs)
+    (λ c. λ h. let q = c .before .before .before .before .before .before .before .before .before .before .before .before .args in
+    begin-last _ h (q .index) (q .id) (q .flag) (q .state) (c .before .before .before .before .before .before .before .before .before .before .before .if1 .left) _ (c .before .before .warm-on .ensures ∙ ap (λ (n : Node). onWarmOn n (q .id) (q .flag) (q .state)) (c .before .before .before .before .before .before .before .before .before .load-node .ensures))
+    (sym (c .before .before .before .before .is-in-use-but .ensures) ∙ c .before .before .before .if3 .left) (sym (c .before .is-refused2 .ensures) ∙ c .if4 .taken))
+    (λ c κs. search needs)
+    (λ c. λ h. let q = c .before .before .before .before .before .before .before .before .before .before .before .before .before .before .before .args in
+    begin-done _ h (q .index) (q .id) (q .flag) (q .state) (c .before .before .before .before .before .before .before .before .before .before .before .before .before .before .if1 .left) _ (c .before .before .before .before .before .warm-on .ensures ∙ ap (λ (n : Node). onWarmOn n (q .id) (q .flag) (q .state)) (c .before .before .before .before .before .before .before .before .before .before .before .before .load-node .ensures))
+    (sym (c .before .before .before .before .before .before .before .is-in-use-but .ensures) ∙ c .before .before .before .before .before .before .if3 .left) _ (sym (c .before .before .before .before .is-refused2 .ensures) ∙ c .before .before .before .if4 .left) (c .begins .ensures (h .held))))
