@@ -180,10 +180,20 @@ fn each_form_has_its_bytes() {
     }
 }
 
+/// `names` prints each line so, which is read back as the same bytes, and so does the listing in hex.
+fn are_spelt(lines: &[(&str, &str)]) {
+    for &(line, printed) in lines {
+        let bytes = bytes_of(line);
+        assert_eq!(spell::script(&bytes, &[]), printed);
+        assert_eq!(bytes_of(printed), bytes, "{line}");
+        assert!(listing::listing(&bytes).ends_with(&format!(" # {printed}")), "{line}");
+    }
+}
+
 /// A warm start, and how `names` prints it: the state whole, and the flag where it is not 1.
 #[test]
 fn warm_starts_are_spelt() {
-    let lines = [
+    are_spelt(&[
         ("warm 0 050101010101 5", "warm 0 05.01.01.01.01.01 000000000005\n"),
         ("warm 9 050101010101 abcdef flag 001", "warm 9 05.01.01.01.01.01 000000ABCDEF\n"),
         (
@@ -191,13 +201,7 @@ fn warm_starts_are_spelt() {
             "warm 9 05.01.01.01.01.01 FFFFFFFFFFFF flag 0\n",
         ),
         ("warm 24 000000000000 0 flag 255", "warm 24 00.00.00.00.00.00 000000000000 flag 255\n"),
-    ];
-    for (line, printed) in lines {
-        let bytes = bytes_of(line);
-        assert_eq!(spell::script(&bytes, &[]), printed);
-        assert_eq!(bytes_of(printed), bytes, "{line}");
-        assert!(listing::listing(&bytes).ends_with(&format!(" # {printed}")), "{line}");
-    }
+    ]);
 }
 
 /// 0A is the last byte that is a command's; cut short by one byte it is none.
@@ -216,7 +220,7 @@ fn the_last_command_is_0a() {
 /// A foreign frame with bit 28 as 0, and how `names` prints it: by its sort where that has a name.
 #[test]
 fn frames_with_bit_28_as_0_are_spelt_by_their_sort() {
-    let lines = [
+    are_spelt(&[
         ("foreign 00700263", "foreign RID 263 bit28 0\n"),
         ("foreign 07050263", "foreign CID 7 263 050 bit28 0\n"),
         ("foreign 00711000", "foreign error 1 000 bit28 0\n"),
@@ -228,13 +232,7 @@ fn frames_with_bit_28_as_0_are_spelt_by_their_sort() {
         ("foreign 20700263", "foreign 20700263\n"),
         ("foreign remote 17050263 bit28 0", "foreign remote 07050263\n"),
         ("foreign short 123", "foreign short 123\n"),
-    ];
-    for (line, printed) in lines {
-        let bytes = bytes_of(line);
-        assert_eq!(spell::script(&bytes, &[]), printed);
-        assert_eq!(bytes_of(printed), bytes, "{line}");
-        assert!(listing::listing(&bytes).ends_with(&format!(" # {printed}")), "{line}");
-    }
+    ]);
 }
 
 /// `all` and `settle` stand for the commands that the card gives occasion for.
