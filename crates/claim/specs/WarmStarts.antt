@@ -67,9 +67,9 @@ without id p h = go (eqb (p .node .own .id) id) (isOff (p .node .phase)) refl re
     go true false e f = absurd (h f (eqb-true (p .node .own .id) id e))
     go false off e f = refl
 
--- A list left the words t, and of place i this was read out. A list left the words u, be it one that goes on from there through any
--- commands, or one from all nodes Off; and there place j is free for the Node ID. Then what was read out is given back at place j: it is
--- accepted, and the node there tests the alias that the node at place i had, from its first CID on, with its Node ID and its generator.
+-- A list left the words t, and of place i this was read out. A list left the words u, be it the same one gone on with through any
+-- commands, or another, after the switch-off; and there place j is free for the Node ID. What was read out is given back at place j: it
+-- is accepted, and the node there tests the alias that the node at place i had, from its first CID on, with its Node ID and generator.
 pub comes-back : {cs ds : List Command} {xs ys : List Told} {t u : List ℕ} → Carried cs xs t → Carried ds ys u
     → (i j : ℕ) (g : Generator) {t′ : List ℕ} → Tells (readOut i) t (read (accepted g)) t′
     → j < places → FreeFor (nodeAt t i .own .id) j u → {x : Told} {v : List ℕ} → Tells (back j (nodeAt t i .own .id) g) u x v

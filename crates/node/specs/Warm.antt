@@ -7,6 +7,7 @@ use native.Mathlib.Omega.{arith}
 use lib.Dec.{leb, eqb}
 use borrow.Author.Tests.{lt-ltb, lt-leb, le-leb, ne-eqb}
 use Rattle.headers.specs.Rules.{badNodeId}
+use Rattle.headers.specs.Answers.{bitOf}
 use Rattle.state.specs.Answers.{isRefused}
 use Rattle.node.specs.Rules.{
   Answer,
@@ -104,10 +105,7 @@ flag-above-1 flag x h = ap (λ (b : Bool). b || (eqb flag 1 && leb (2 ^ 48) x)) 
 pub state-above-48-bits : (x : ℕ) → 2 ^ 48 ≤ x → badStart 1 x ≡ true
 state-above-48-bits x h = le-leb (2 ^ 48) x h
 
--- GIVEN BACK: 1 where the first alias is past, else 0, and the generator's state.
-
-abbrev pub flagOf : (past : Bool) → ℕ
-flagOf past = cond past 1 0
+-- GIVEN BACK, as it is read out: for the flag 1 where the first alias is past, else 0, and the generator's state.
 
 -- Whatever node m is there, it becomes one that tests the alias that n had, with n's Node ID and generator.
 module _ (m n : Node) (h : Sound n) (on : isOff (n .phase) ≡ false) where
@@ -116,10 +114,10 @@ module _ (m n : Node) (h : Sound n) (on : isOff (n .phase) ≡ false) where
       let ne : n .own .id ≢ 0 = λ e. let p = h .named on .0 in omega (arith, e) in
       λ z. refuse (ne-eqb (n .own .id) 0 ne z || lt-leb (2 ^ 48) (n .own .id) (h .id) z) 3 (accepted (1 + n .own .id % 4095))
 
-  pub given-back : onWarmOn m (n .own .id) (flagOf (n .generator .past)) (n .generator .state)
+  pub given-back : onWarmOn m (n .own .id) (bitOf (n .generator .past)) (n .generator .state)
       ≡ resulting (accepted done) m (fresh (n .own .id) (n .alias) (n .generator))
   unfolding onWarmOn
-  given-back = ap (λ (r : Answer ℕ). startedBy r m (n .own .id) (flagOf (n .generator .past)) (n .generator .state)) known ∙ go (n .generator .past) refl
+  given-back = ap (λ (r : Answer ℕ). startedBy r m (n .own .id) (bitOf (n .generator .past)) (n .generator .state)) known ∙ go (n .generator .past) refl
     where
       id : ℕ
       id = n .own .id
@@ -131,7 +129,7 @@ module _ (m n : Node) (h : Sound n) (on : isOff (n .phase) ≡ false) where
       is = h .named on .2
 
       go : (past : Bool) → n .generator .past ≡ past
-          → startedBy (accepted (1 + id % 4095)) m id (flagOf past) x ≡ resulting (accepted done) m (fresh id (n .alias) (n .generator))
+          → startedBy (accepted (1 + id % 4095)) m id (bitOf past) x ≡ resulting (accepted done) m (fresh id (n .alias) (n .generator))
       go true e =
           let a : drawn x ≡ n .alias .0 = sym (is ∙ ap (λ (b : Bool). cond b (drawn x) (1 + id % 4095)) e) in
           ap (λ (b : Bool). resulting (refuse b 18 (accepted done)) m (warm id x)) (lt-leb (2 ^ 48) x (h .generator))

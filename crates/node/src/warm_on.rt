@@ -20,7 +20,7 @@ impl Node {
         Node::fresh(id, a, g)
     }
 
-    // From any state: flag 0 is a power-on, whatever the state given; flag 1 starts from that state.
+    // In any state of the node. Flag 0 is a power-on, whatever generator state is given; flag 1 starts from that one.
     pub fn warm_on(self, id: u64, flag: u8, state: u64) -> Outcome
         ensures { λ o. ⌜ outcomeAs o ≡ outcome wait self (order (warmOn id flag state)) ⌝ }
     {

@@ -45,7 +45,7 @@ pub data Form : Type 0 where
 abbrev pub frame : (kind header len bytes : ℕ) → Frame
 frame kind header len bytes = record { kind = kind; header = header; len = len; bytes = bytes }
 
--- The commands by their bytes, with their operands as document 01 lists them, and A.9 that of 0A.
+-- The commands by their bytes, with their operands as document 01 lists them, and for 0A A.9.
 unfoldable pub form : (byte : ℕ) → Form
 form b =
     cond (eqb b 0x01) (operand 1 λ index. operand 6 λ id. makes (powerOn index id))

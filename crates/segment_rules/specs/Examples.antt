@@ -644,6 +644,29 @@ startedFrom x a = fresh 0x050101010101 (record { 0 = a }) (generator x true)
 abbrev pub warmed : Node
 warmed = startedFrom 0x220FA67D4EAA 0x4F8
 
+-- the same in a state, nothing waiting; a CID and a message with its alias, and an AMD with its Node ID
+abbrev pub warmedIn : Phase → Node
+warmedIn p = record {
+  own = record { id = 0x050101010101; link = ErrorActive };
+  alias = record { 0 = 0x4F8 };
+  generator = generator 0x220FA67D4EAA true;
+  phase = p;
+  waiting = noneWaiting;
+}
+
+abbrev pub warmedCid : Frame
+warmedCid = bare 0x170504F8
+
+abbrev pub warmedMessage : Frame
+warmedMessage = bare 0x195B44F8
+
+abbrev pub sameId : Frame
+sameId = withId 0x10701111 0x050101010101
+
+-- its read-out
+abbrev pub pastOut : Besides
+pastOut = gave (generator 0x220FA67D4EAA true)
+
 abbrev pub ofWarmStarts : List Example
 ofWarmStarts =
     -- refusals are those of power-on in their order: 1; 3; 15, a flag above 1 and a state above 48 bits notwithstanding
@@ -677,9 +700,11 @@ ofWarmStarts =
     -- or 1 where that is 0
     ∷ makes start (warmOn 3 0x050101010101 1 0) 3 (startedFrom 0 1) []
     ∷ makes start (warmOn 3 0x050101010101 1 0xABCABCABCABC) 3 (startedFrom 0xABCABCABCABC 1) []
-    -- from any state, with an empty inbox, nothing waiting and the link Error Active; it concerns no other place
+    -- from any state, with an empty inbox, nothing waiting and the link Error Active, with either flag; it concerns no other place
     ∷ makes (alone 3 replying (frame1 ∷ [])) (warmOn 3 0x050101010101 1 0x220FA67D4EAA) 3 warmed []
+    ∷ makes (alone 3 replying (frame1 ∷ [])) (warmOn 3 0x050101010101 0 0x220FA67D4EAA) 3 testing []
     ∷ makes (alone 3 (linked (inState Silent) ErrorPassive) (frame1 ∷ [])) (warmOn 3 0x050101010101 1 0x220FA67D4EAA) 3 warmed []
+    ∷ makes (alone 3 (linked (inState Silent) ErrorPassive) (frame1 ∷ [])) (warmOn 3 0x050101010101 0 0x220FA67D4EAA) 3 testing []
     ∷ makes (two 3 permitted [] 4 permitted (frame1 ∷ [])) (warmOn 3 0x050101010101 1 0x220FA67D4EAA) 4 (beside permitted) (frame1 ∷ [])
     -- a refused one leaves node, inbox and ages as they were
     ∷ makes (two 3 replying (frame1 ∷ []) 4 permitted []) (warmOn 3 0x050101011100 1 0x220FA67D4EAA) 3 replying (frame1 ∷ [])
@@ -692,13 +717,15 @@ ofWarmStarts =
     ∷ lists (warmOn 3 0x050101010101 1 0x220FA67D4EAA ∷ send 3 ∷ send 3 ∷ send 3 ∷ send 3 ∷ send 3 ∷ []) (accepted done ∷ accepted (left (bare 0x170504F8)) ∷ accepted (left (bare 0x161014F8)) ∷ accepted (left (bare 0x150104F8)) ∷ accepted (left (bare 0x141014F8)) ∷ refused 4 ∷ []) 3 (counted warmed (Testing 4 0)) []
     ∷ says (alone 3 (counted warmed (Testing 4 200)) []) (send 3) (refused 4)
     ∷ says (alone 3 (counted warmed (Testing 4 201)) []) (send 3) (accepted (left (bare 0x107004F8)))
-    ∷ makes (alone 3 warmed (bare 0x195B44F8 ∷ [])) (deliver 3) 3 (startedFrom 0x5C694494EE53 0xB9F) []
+    ∷ makes (alone 3 warmed (warmedMessage ∷ [])) (deliver 3) 3 (startedFrom 0x5C694494EE53 0xB9F) []
     -- the mark stays
     ∷ chooses (two 3 testing [] 9 testing []) 5 (warmOn 3 0x050101010101 1 0x220FA67D4EAA ∷ choose ∷ []) (plain ∷ named 9 ∷ []) 9
-    -- READ-OUT: 1, 2; the generator state and whether the first alias is past, in every state but Off
+    -- READ-OUT: 1, then 2; the generator state and whether the first alias is past, in every state but Off
     ∷ says (alone 24 testing []) (readOut 24) (refused 1)
+    ∷ says start (readOut 24) (refused 1)
     ∷ says start (readOut 3) (refused 2)
-    ∷ says (alone 3 testing []) (readOut 3) (accepted done)
+    ∷ says (alone 0 testing []) (readOut 0) (accepted done)
+    ∷ says (alone 23 testing []) (readOut 23) (accepted done)
     ∷ chooses (alone 24 testing []) 7 (readOut 24 ∷ readOut 3 ∷ []) (plain ∷ plain ∷ []) 7
     ∷ chooses (alone 3 testing []) 7 (readOut 3 ∷ []) (gave (generator 0x050101010101 false) ∷ []) 7
     ∷ chooses (alone 3 (inState (Testing 4 7)) []) 7 (readOut 3 ∷ []) (gave (generator 0x050101010101 false) ∷ []) 7
@@ -720,8 +747,25 @@ ofWarmStarts =
     ∷ chooses start 23 (warmOn 3 0x050101010101 0 0x220FA67D4EAA ∷ readOut 3 ∷ []) (plain ∷ gave (generator 0x050101010101 false) ∷ []) 23
     ∷ chooses (alone 3 (inState (Leaving Release)) []) 7 (send 3 ∷ readOut 3 ∷ []) (plain ∷ gave (generator 0x050101010101 false) ∷ []) 7
     ∷ chooses (alone 3 warmed []) 7 (powerOn 3 0x050101010101 ∷ readOut 3 ∷ []) (plain ∷ gave (generator 0x050101010101 false) ∷ []) 7
-    -- it changes nothing, and no time passes
+    -- not by the alias: the first alias of Node ID FFF7FF, 800, is also the one that its four parts give
+    ∷ chooses start 23 (powerOn 3 0xFFF7FF ∷ readOut 3 ∷ warmOn 3 0xFFF7FF 1 0xFFF7FF ∷ readOut 3 ∷ []) (plain ∷ gave (generator 0xFFF7FF false) ∷ plain ∷ gave (generator 0xFFF7FF true) ∷ []) 23
+    -- it stays past, and the generator where it was, in all that is no restart: CIDs, ticks, RID, AMD; a reply, a host frame; a link
+    -- order; release and AMR; a collision; the report
+    ∷ chooses (alone 3 (warmedIn (Testing 0 0)) []) 7 (send 3 ∷ readOut 3 ∷ []) (plain ∷ pastOut ∷ []) 7
+    ∷ chooses (alone 3 (warmedIn (Testing 4 7)) []) 7 (tick ∷ readOut 3 ∷ []) (plain ∷ pastOut ∷ []) 7
+    ∷ chooses (alone 3 (warmedIn (Testing 4 201)) []) 7 (send 3 ∷ readOut 3 ∷ send 3 ∷ readOut 3 ∷ []) (plain ∷ pastOut ∷ plain ∷ pastOut ∷ []) 7
+    ∷ chooses (alone 3 (warmedIn Permitted) (warmedCid ∷ [])) 7 (deliver 3 ∷ readOut 3 ∷ send 3 ∷ readOut 3 ∷ []) (plain ∷ pastOut ∷ plain ∷ pastOut ∷ []) 7
+    ∷ chooses (alone 3 (warmedIn Permitted) []) 7 (message 3 0x5B4 0 0 ∷ readOut 3 ∷ send 3 ∷ readOut 3 ∷ []) (plain ∷ pastOut ∷ plain ∷ pastOut ∷ []) 7
+    ∷ chooses (alone 3 (warmedIn Permitted) []) 7 (link 3 1 ∷ readOut 3 ∷ []) (plain ∷ pastOut ∷ []) 7
+    ∷ chooses (alone 3 (warmedIn Permitted) []) 7 (release 3 ∷ readOut 3 ∷ send 3 ∷ readOut 3 ∷ []) (plain ∷ pastOut ∷ plain ∷ pastOut ∷ []) 7
+    ∷ chooses (alone 3 (warmedIn Permitted) (warmedMessage ∷ [])) 7 (deliver 3 ∷ readOut 3 ∷ []) (plain ∷ pastOut ∷ []) 7
+    ∷ chooses (alone 3 (warmedIn Permitted) (sameId ∷ [])) 7 (deliver 3 ∷ readOut 3 ∷ send 3 ∷ readOut 3 ∷ []) (plain ∷ pastOut ∷ plain ∷ pastOut ∷ []) 7
+    -- a read-out changes nothing, there or elsewhere, and no time passes
     ∷ makes (alone 3 replying (frame1 ∷ [])) (readOut 3) 3 replying (frame1 ∷ [])
+    ∷ makes (alone 3 hostWaiting []) (readOut 3) 3 hostWaiting []
+    ∷ makes (alone 3 (inState (Testing 4 7)) []) (readOut 3) 3 (inState (Testing 4 7)) []
+    ∷ makes (alone 3 (linked permitted ErrorPassive) []) (readOut 3) 3 (linked permitted ErrorPassive) []
+    ∷ makes (two 3 permitted [] 4 (inState (Testing 4 7)) (frame1 ∷ [])) (readOut 3) 4 (beside (inState (Testing 4 7))) (frame1 ∷ [])
     ∷ ageing (alone 3 replying (frame1 ∷ [])) (agesAt 3 (9 ∷ []) 7) (readOut 3 ∷ []) 3 (9 ∷ []) 7
     -- read out and given back at another index, after the node has gone from its own
     ∷ lists (powerOn 3 0x050101010101 ∷ fail 3 ∷ readOut 3 ∷ powerOn 3 0x050101010102 ∷ warmOn 5 0x050101010101 1 0x220FA67D4EAA ∷ []) (accepted done ∷ accepted done ∷ accepted done ∷ accepted done ∷ accepted done ∷ []) 5 warmed []
@@ -751,7 +795,7 @@ examples-hold = (
                 (
                   ((refl, refl), ((refl, refl), ((refl, refl), ((refl, refl), ((refl, refl), ((refl, refl), ((refl, refl), ((refl, refl), ((refl, refl), ((refl, refl), ((refl, refl), ((refl, refl), ((refl, refl), ((refl, refl), ((refl, refl), ((refl, refl), ((refl, refl), ((refl, refl), ((refl, refl), ((refl, refl), ((refl, refl), ((refl, refl), ((refl, refl), ((refl, refl), ((refl, refl), ((refl, refl), ((refl, refl), ((refl, refl), ((refl, refl), ((refl, refl), ((refl, refl), ((refl, refl), ((refl, refl), ((refl, refl), ((refl, refl), ((refl, refl), (refl, (refl, (refl, (refl, (refl, ((refl, refl), (refl, ((refl, refl), ((refl, refl), ((refl, refl), ((refl, refl), ((refl, refl), ((refl, refl), ((refl, refl), ((refl, refl), ((refl, refl), ((refl, refl), ((refl, refl), tt)))))))))))))))))))))))))))))))))))))))))))))))))))))),
                   (
-                    (refl, (refl, (refl, (refl, (refl, (refl, (refl, (refl, (refl, (refl, (refl, (refl, (refl, (refl, (refl, (refl, (refl, (refl, (refl, (refl, (refl, (refl, (refl, (refl, (refl, (refl, (refl, (refl, (refl, ((refl, refl), ((refl, refl), ((refl, refl), ((refl, refl), (refl, (refl, (refl, ((refl, refl), (refl, (refl, (refl, ((refl, refl), ((refl, refl), ((refl, refl), ((refl, refl), ((refl, refl), ((refl, refl), ((refl, refl), ((refl, refl), ((refl, refl), ((refl, refl), ((refl, refl), ((refl, refl), ((refl, refl), ((refl, refl), ((refl, refl), ((refl, refl), ((refl, refl), ((refl, refl), (refl, ((refl, refl), ((refl, refl), tt))))))))))))))))))))))))))))))))))))))))))))))))))))))))))))),
+                    (refl, (refl, (refl, (refl, (refl, (refl, (refl, (refl, (refl, (refl, (refl, (refl, (refl, (refl, (refl, (refl, (refl, (refl, (refl, (refl, (refl, (refl, (refl, (refl, (refl, (refl, (refl, (refl, (refl, (refl, (refl, ((refl, refl), ((refl, refl), ((refl, refl), ((refl, refl), (refl, (refl, (refl, ((refl, refl), (refl, (refl, (refl, (refl, (refl, ((refl, refl), ((refl, refl), ((refl, refl), ((refl, refl), ((refl, refl), ((refl, refl), ((refl, refl), ((refl, refl), ((refl, refl), ((refl, refl), ((refl, refl), ((refl, refl), ((refl, refl), ((refl, refl), ((refl, refl), ((refl, refl), ((refl, refl), ((refl, refl), ((refl, refl), ((refl, refl), ((refl, refl), ((refl, refl), ((refl, refl), ((refl, refl), ((refl, refl), ((refl, refl), ((refl, refl), ((refl, refl), (refl, (refl, (refl, (refl, (refl, ((refl, refl), ((refl, refl), tt))))))))))))))))))))))))))))))))))))))))))))))))))))))))))))))))))))))))))))))),
                     tt,
                   ),
                 ),

@@ -1,6 +1,5 @@
--- A.9 over lists: what is read out and given back at power-on brings the alias that the node had; and flag 0 of command 0A does to every
--- segment what command 01 does. `Same` and `Returns` are to be believed,
--- with the laws that say them.
+-- A.9: what is read out and given back at power-on brings the alias that the node had; and command 0A with flag 0 does to every segment
+-- what command 01 does. `Same`, `back` and `Returns` are to be believed, with the laws that say them, `flag-0` and `given-back`.
 use mathlib.Core.Path.{_≡_, refl, ap, subst, _∙_}
 use mathlib.Core.Bool.{false, cond}
 use mathlib.Core.List.{[]}
@@ -11,7 +10,8 @@ use Rattle.headers.specs.Laws.{passed, was-accepted}
 use Rattle.node.specs.Rules as N
 use Rattle.node.specs.Rules.{Answer, accepted, refused, refuse, Value, done, wait, isOff, fresh, resulting, onOrder, onWarmOn, readOutOf}
 use Rattle.node.specs.Sound.{Sound}
-use Rattle.node.specs.Warm.{warm-cold, flagOf, given-back as node-back}
+use Rattle.headers.specs.Answers.{bitOf}
+use Rattle.node.specs.Warm.{warm-cold, given-back as node-back}
 use Rattle.node.specs.declared.Generator.{Generator}
 use Rattle.node.specs.declared.Node.{Node}
 use Rattle.segment_rules.specs.Rules.{
@@ -82,11 +82,12 @@ module _ (S : Segment) (n id x : ℕ) where
 
 -- GIVEN BACK
 
--- The read-out g of the node n is given back at place j of the segment T: the power-on is accepted, and the node there tests the
--- alias that n had, from its first CID on, with n's Node ID and generator and nothing in its inbox.
+-- A read-out g is given back at place j: the flag is 1 where the first alias was past, else 0.
 abbrev pub back : (j id : ℕ) → Generator → Command
-back j id g = warmOn j id (flagOf (g .past)) (g .state)
+back j id g = warmOn j id (bitOf (g .past)) (g .state)
 
+-- On the segment T the read-out g of the node n is given back at place j: the power-on is accepted, and the node there tests the
+-- alias that n had, from its first CID on, with n's Node ID and generator and nothing in its inbox.
 pub record Returns (T : Segment) (j : ℕ) (n : Node) (g : Generator) : Type 0 where
   pub accepted : answer T (back j (n .own .id) g) ≡ accepted done
   pub place : step T (back j (n .own .id) g) .at j ≡ place (fresh (n .own .id) (n .alias) g) []
@@ -115,7 +116,7 @@ given-back S T i j g h e hj free = subst (Returns T j n) is (record { accepted =
     begun : Node
     begun = fresh (n .own .id) (n .alias) (n .generator)
 
-    at-node : onWarmOn m (n .own .id) (flagOf (n .generator .past)) (n .generator .state) ≡ resulting (accepted done) m begun
+    at-node : onWarmOn m (n .own .id) (bitOf (n .generator .past)) (n .generator .state) ≡ resulting (accepted done) m begun
     at-node = node-back m n h on
 
     c : Command
