@@ -109,7 +109,7 @@ unfolding run
 run-snoc S [] c = refl
 run-snoc S (d ∷ cs) c = run-snoc (step S d) cs c
 
-answers-snoc : (S : Segment) (cs : List Command) (c : Command)
+pub answers-snoc : (S : Segment) (cs : List Command) (c : Command)
     → answers S (cs ++ (c ∷ [])) ≡ answers S cs ++ (told (run S cs) c ∷ [])
 unfolding run answers
 answers-snoc S [] c = refl

@@ -9,3 +9,4 @@ pub mod Sight
 pub mod Bus
 pub mod Bit28
 pub mod WarmStarts
+pub mod AllBack
