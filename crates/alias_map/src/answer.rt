@@ -4,13 +4,13 @@ ghost use Rattle.alias_map.specs.Answers.{refusal_as};
 
 use headers::alias::Alias;
 
-#[derive(Drop)]
+#[derive(Clone, Copy)]
 pub enum Refusal {
     Malformed,
     Full,
 }
 
-#[derive(Drop)]
+#[derive(Clone, Copy)]
 pub enum Answer {
     Accepted,
     Refused(Refusal),
@@ -32,13 +32,13 @@ impl Refusal {
 pub const ABSENT: u8 = 13;
 
 // A look-up's answer: what was found, and how many entries were compared (A.4); no count where the entry is absent.
-#[derive(Drop)]
+#[derive(Clone, Copy)]
 pub enum FoundId {
     Id { id: u64, compared: usize },
     Absent,
 }
 
-#[derive(Drop)]
+#[derive(Clone, Copy)]
 pub enum FoundAlias {
     Alias { alias: Alias, compared: usize },
     Absent,

@@ -7,14 +7,14 @@ ghost use Rattle.alias_map.specs.Answers.{key_as};
 use crate::layout::{ALIAS, ALIASES, IDS};
 use headers::alias::Alias;
 
-#[derive(Drop)]
+#[derive(Clone, Copy)]
 pub struct Entry {
     pub alias: Alias,
     pub id: u64,
 }
 
 // The entries that a note removes: those with this alias, or those with either alias or Node ID of an entry.
-#[derive(Drop)]
+#[derive(Clone, Copy)]
 pub(crate) enum Key {
     Alias(Alias),
     Either(Entry),

@@ -2,7 +2,7 @@
 // specs/Words.antt.
 
 // What a map is laid out for.
-#[derive(Drop)]
+#[derive(Clone, Copy)]
 pub struct Map;
 
 impl Map {

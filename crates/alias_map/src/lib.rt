@@ -1,4 +1,6 @@
 // The map of foreign aliases: which Node ID stands behind an alias that was seen on the bus.
+#![tactic(auto)]
+
 pub mod answer;
 pub mod by_alias;
 pub mod by_id;

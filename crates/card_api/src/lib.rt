@@ -1,6 +1,8 @@
 // For C: the table's commands over a plain pointer to its words, answers as numbers. Beside them looking (look.rt), what a
 // warm power-on can be given later (read_out.rt), the map of foreign aliases (map.rt), headers and aliases (lcc.rt), frames as text
 // (grid.rt).
+#![tactic(auto)]
+
 pub mod grid;
 pub mod lcc;
 pub mod look;

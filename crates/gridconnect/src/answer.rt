@@ -1,7 +1,7 @@
 // What writer and reader answer, and how long a text is.
 
 // The text's length.
-#[derive(Drop)]
+#[derive(Clone, Copy)]
 pub enum Written {
     Text(usize),
     Malformed,
@@ -9,7 +9,7 @@ pub enum Written {
 }
 
 // bytes: the data as one number, the first byte highest of eight, those past the length 0.
-#[derive(Drop)]
+#[derive(Clone, Copy)]
 pub enum Read {
     Frame { header: u32, len: u8, bytes: u64 },
     NotGridConnect,

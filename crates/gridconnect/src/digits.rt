@@ -4,7 +4,7 @@ ghost use Rattle.gridconnect.specs.Rules.{value as value_of};
 ghost use Rattle.gridconnect.specs.Answers.{Stands};
 ghost use Rattle.gridconnect.specs.Digits.{value_table};
 
-#[derive(Drop)]
+#[derive(Clone, Copy)]
 pub enum Parsed {
     Number(u64),
     NotDigits,

@@ -1,4 +1,6 @@
 // Runs the map over the operations on standard input, and writes a line for each: a test against another implementation.
+#![tactic(auto)]
+
 ghost use Rattle.std.specs.Prelude.{◌≡◌, ◌<◌, length};
 
 use alias_map::answer::{Answer, FoundAlias, FoundId, Refusal};

@@ -6,7 +6,7 @@ ghost use Rattle.node.specs.Answers.{read_out_as};
 use crate::{Generator, Node};
 use state::Refusal;
 
-#[derive(Drop)]
+#[derive(Clone, Copy)]
 pub enum ReadOut {
     Generator(Generator),
     Refused(Refusal),

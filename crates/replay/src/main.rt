@@ -1,4 +1,6 @@
 // Replays a corpus of scripts: each follows its length in 4 bytes, highest first; their outputs are written in order.
+#![tactic(auto)]
+
 ghost use Rattle.std.specs.Prelude.{◌≡◌, ◌<◌, ◌≤◌, length};
 
 use libc::{STDIN_FILENO, STDOUT_FILENO};

@@ -7,7 +7,7 @@ ghost use Rattle.script.specs.Scripts.{taken};
 
 use headers::frame::Frame;
 
-#[derive(Drop)]
+#[derive(Clone, Copy)]
 pub enum Command {
     PowerOn {
         index: u8,
@@ -39,7 +39,7 @@ pub enum Command {
 }
 
 // What stands at the head of the rest of a script.
-#[derive(Drop)]
+#[derive(Clone, Copy)]
 pub enum Read {
     End,
     // A command with its byte, and how many bytes it takes.

@@ -1,4 +1,6 @@
 // A whole run of a script for C and Rust: pointers with lengths, for tests and benchmarks.
+#![tactic(auto)]
+
 ghost use Rattle.text.specs.Rules.{Printed};
 ghost use Rattle.script.specs.Rules.{output};
 

@@ -1,4 +1,6 @@
 // The program `segment`: a script on standard input, its lines on standard output.
+#![tactic(auto)]
+
 use libc::{STDIN_FILENO, STDOUT_FILENO};
 use script::program;
 

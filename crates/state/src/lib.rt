@@ -1,4 +1,6 @@
 // Below layer 2: what a node is made of and what it says, each told without the whole node. Here are the types.
+#![tactic(auto)]
+
 pub mod answers;
 pub mod concerns;
 pub mod frames;
@@ -9,14 +11,14 @@ pub mod phases;
 use headers::frame::Frame;
 
 // Why a node is Leaving.
-#[derive(Drop)]
+#[derive(Clone, Copy)]
 pub enum Reason {
     Collision,
     Release,
 }
 
 // The seven states.
-#[derive(Drop)]
+#[derive(Clone, Copy)]
 pub enum Phase {
     Off,
     // How many CIDs have left, and how many ticks came since the fourth.
@@ -29,7 +31,7 @@ pub enum Phase {
 }
 
 // What the host ordered to be sent, if anything: a message's field and data, or an enquiry's data.
-#[derive(Drop)]
+#[derive(Clone, Copy)]
 pub enum Host {
     Empty,
     Message { field: u16, len: u8, bytes: u64 },
@@ -37,7 +39,7 @@ pub enum Host {
 }
 
 // A node's link state, as its host tells it.
-#[derive(Drop)]
+#[derive(Clone, Copy)]
 pub enum Link {
     ErrorActive,
     ErrorPassive,
@@ -45,7 +47,7 @@ pub enum Link {
 }
 
 // The error report that waits, if one does, by the standard's number.
-#[derive(Drop)]
+#[derive(Clone, Copy)]
 pub enum Error {
     NoReport,
     Report0,
@@ -55,7 +57,7 @@ pub enum Error {
 }
 
 // All that waits to be sent, one of each sort at most.
-#[derive(Drop)]
+#[derive(Clone, Copy)]
 pub struct Waiting {
     pub reply: bool,
     pub amd: bool,
@@ -65,7 +67,7 @@ pub struct Waiting {
 }
 
 // The frame with an age that waits.
-#[derive(Drop)]
+#[derive(Clone, Copy)]
 pub enum Timed {
     Untimed,
     Reply,
@@ -73,7 +75,7 @@ pub enum Timed {
 }
 
 // The due frame: the one that leaves next.
-#[derive(Drop)]
+#[derive(Clone, Copy)]
 pub enum Due {
     Nothing,
     Next(Frame),
@@ -81,7 +83,7 @@ pub enum Due {
 
 // What of a frame concerns a node: nothing, that it has the node's alias (and whether it is a CID), or, under another alias at a
 // Permitted node, that it is an AME or an AMD.
-#[derive(Drop)]
+#[derive(Clone, Copy)]
 pub enum Concern {
     Nothing,
     SameAlias(bool),
@@ -90,7 +92,7 @@ pub enum Concern {
 }
 
 // The refusals 1 to 9, 14, 15 and 18, in the order of their numbers. A node alone gives those that need no segment.
-#[derive(Drop)]
+#[derive(Clone, Copy)]
 pub enum Refusal {
     BadIndex,
     Off,
@@ -107,7 +109,7 @@ pub enum Refusal {
 }
 
 // What events answer: accepted, for a send with the frame that left, or one of these refusals.
-#[derive(Drop)]
+#[derive(Clone, Copy)]
 pub enum Answer {
     Accepted,
     Sent(Frame),

@@ -13,7 +13,7 @@ use state::{Due, Phase, Refusal};
 
 // The state by its number (0 Off, 1 Testing, 2 Reserved, 3 Permitted, 4 Leaving, 5 Resting, 6 Silent), the Node ID (0 where
 // Off), the alias in test or in use (0 where neither), the due frame, and how many frames the inbox has.
-#[derive(Drop)]
+#[derive(Clone, Copy)]
 pub struct Seen {
     pub state: u8,
     pub id: u64,
@@ -22,13 +22,13 @@ pub struct Seen {
     pub count: u64,
 }
 
-#[derive(Drop)]
+#[derive(Clone, Copy)]
 pub enum Looked {
     Seen(Seen),
     Refused(Refusal),
 }
 
-#[derive(Drop)]
+#[derive(Clone, Copy)]
 pub enum Found {
     Frame(Frame),
     Refused(Refusal),

@@ -9,7 +9,7 @@ use crate::layout::{Table, WORDS};
 use crate::store;
 
 // The node at an index, or none.
-#[derive(Drop)]
+#[derive(Clone, Copy)]
 pub enum Choice {
     Names(usize),
     Nobody,

@@ -1,0 +1,5 @@
+use Rattle.headers.specs.Laws.{step-low}
+use Rattle.headers.proofs.alias.step_from.Goals as goal
+
+pub returns : goal.returns
+returns c = step-low c.args.state
