@@ -9,8 +9,8 @@ returns-then-state-gt281474976710655 c = simp (le-leb (2 ^ 48) c.args.state (ome
 
 pub returns : goal.returns
 returns c = simp (
-      lt-leb (2 ^ 48) c.args.state (omega arith),
-      c.drawn_from.ensures,
-      c.step_from-next.ensures,
-    )
+  lt-leb (2 ^ 48) c.args.state (omega arith),
+  c.drawn_from.ensures,
+  c.step_from-next.ensures,
+)
     refl

@@ -1,0 +1,8 @@
+use Rattle.std.proofs.Common.{◌<◌, ◌≡◌, ℕ, ◌+◌, ◌-◌, ◌*◌, ◌≤◌, length}
+use Rattle.text.specs.Rules.{decimal, sheet, Wrote}
+use Rattle.text.specs.Decimal.{last_two, last_four}
+use Rattle.text.proofs.decimal.+put_decimal.Given as goal
+
+-- proposed from what the function passes where it calls itself
+abbrev pub decreases-put_decimal : goal.decreases-put_decimal
+decreases-put_decimal l = l.n
