@@ -1,0 +1,5 @@
+use mathlib.Core.Path.{refl}
+use Rattle.node.proofs.Node.concern.Goals as goal
+
+pub returns : goal.returns
+returns c = rw c.concern_of.ensures refl
