@@ -1,0 +1,5 @@
+use Rattle.table.proofs.Stored.{phase-at}
+use Rattle.table.proofs.store.set_phase.Goals as goal
+
+pub returns : goal.returns
+returns c = λ h. let q = c.args in phase-at q.t.now q.k _ q.p c.requires h c.with_phase-w.ensures
