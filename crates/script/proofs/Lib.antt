@@ -1,3 +1,1 @@
 -- Laws that the proofs of the crate's functions share, in the order of their use.
-pub mod Again
-pub mod Meet
