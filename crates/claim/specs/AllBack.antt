@@ -11,28 +11,7 @@ use Rattle.headers.specs.Answers.{bit_of}
 use Rattle.node.specs.Rules as N
 use Rattle.node.specs.Rules.{Answer, accepted, refuse, Value, done, off_node, is_off, fresh, read_out_of}
 use Rattle.node.specs.declared.Node.{Node}
-use Rattle.segment_rules.specs.Rules.{
-  places,
-  Place,
-  place,
-  Segment,
-  blank,
-  start,
-  orders,
-  Command,
-  has_id,
-  read_out_at,
-  answer,
-  plain,
-  Told,
-  stays,
-  place_by,
-  effect_at,
-  step_by,
-  step,
-  run,
-  answers,
-}
+use Rattle.segment_rules.specs.Rules.{places, Place, place, Segment, blank, start, orders, Command, has_id, read_out_at, plain, Told, stays, place_by, effect_at, step_by, step, run, answers}
 use Rattle.segment_rules.specs.Others.{no_other}
 use Rattle.segment_rules.specs.WarmStarts.{back, Returns, given_back}
 use Rattle.table.specs.Words.{node_at, view}

@@ -2,42 +2,7 @@
 -- the laws for each way that these change.
 use Rattle.std.specs.Prelude.{◌≡◌, refl, ◌⊎◌, List, [], ◌∷◌, ◌++◌, map, ℕ, ◌+◌, ◌≤◌, length}
 use Rattle.std.proofs.Common.{inl, inr, arith}
-use Rattle.node.specs.Stand.{
-  Stand,
-  idle,
-  tests,
-  holds,
-  owes,
-  departs,
-  stand,
-  Uses,
-  Tests,
-  timed_by,
-  Tells,
-  Asks,
-  Turns,
-  stops,
-  begins-to-owe,
-  still-owes,
-  still-departs,
-  holder-leaves,
-  ower-leaves,
-  Grows,
-  advances,
-  rests,
-  Sends,
-  ends,
-  asks,
-  takes,
-  replies,
-  as_before,
-  turns-uses,
-  turns-tests,
-  sends-uses,
-  sends-tests,
-  grows-uses,
-  grows-tests,
-}
+use Rattle.node.specs.Stand.{Stand, idle, tests, holds, owes, departs, Uses, Tests, timed_by, Tells, Asks, Turns, stops, begins-to-owe, still-owes, still-departs, holder-leaves, ower-leaves, Grows, advances, rests, Sends, ends, asks, takes, replies, as_before, turns-uses, turns-tests, sends-uses, sends-tests, grows-uses, grows-tests}
 use Rattle.headers.specs.declared.frame.Frame.{Frame}
 use Rattle.claim.specs.Bus.{Talk, Local, Emits, Gets, Passes, Kept}
 use Rattle.segment_rules.specs.Rules.{ages_on, pass_age}

@@ -3,7 +3,6 @@
 use Rattle.std.specs.Prelude.{◌≡◌, ℕ, ◌^◌, ◌<◌, true, false, List, length}
 use Rattle.headers.specs.Rules.{Answer, accepted, refused}
 use Rattle.gridconnect.specs.Rules.{write, length_of, buffer_of, are_digits, number, Frame}
-use Rattle.gridconnect.specs.Examples as Examples
 use Rattle.gridconnect.specs.declared.answer.Written as W
 use Rattle.gridconnect.specs.declared.answer.Read as R
 use Rattle.gridconnect.specs.declared.digits.Parsed as P

@@ -1,5 +1,5 @@
 -- Laws of letters that are raised: digits in either case become the digits that are written.
-use Rattle.std.specs.Prelude.{◌≡◌, refl, ℕ, suc, ◌+◌, ◌-◌, ◌*◌, ◌/◌, ◌%◌, ◌<◌, Bool, true, false, cond, not, ◌||◌, List, [], ◌∷◌, ◌++◌, T, ltb, eqb, length}
+use Rattle.std.specs.Prelude.{◌≡◌, refl, ℕ, suc, ◌+◌, ◌*◌, ◌/◌, ◌%◌, ◌<◌, Bool, true, false, cond, not, ◌||◌, List, [], ◌∷◌, ◌++◌, T, ltb, eqb, length}
 use Rattle.std.proofs.Common.{ap, sym, ◌∙◌, append-nil, arith, add-zero, add-suc, suc-add, zero-add, lt-ltb, ltb-true, ltb-false, eqb→eq}
 use Rattle.std.proofs.Math.Seq.{append_snoc}
 use Rattle.headers.specs.Laws.{both}

@@ -1,7 +1,7 @@
 -- A.5: two frames that differ in bit 28 alone. The two definitions are to be believed; the laws say what else is the same of both.
 use Rattle.std.specs.Prelude.{◌≡◌, Bool, cond, ◌&&◌, ◌||◌, ℕ, ◌/◌, ◌%◌, ◌^◌, ◌<◌}
 use Rattle.std.proofs.Math.Path.{refl}
-use Rattle.std.proofs.Common.{ap, ◌∙◌, le-leb, leb-true, leb-false, eqb-true}
+use Rattle.std.proofs.Common.{le-leb, leb-true, leb-false, eqb-true}
 use Rattle.std.proofs.Math.Bool.{true, false, not}
 use native.Mathlib.Omega.{arith}
 use Rattle.std.proofs.Math.Dec.{ltb, leb, eqb}

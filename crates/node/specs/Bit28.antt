@@ -7,38 +7,7 @@ use Rattle.std.proofs.Math.Dec.{eqb}
 use Rattle.headers.specs.Rules.{id_in}
 use Rattle.headers.specs.Bit28.{But28, alias-but-28, kind-but-28, malformed-but-28}
 use Rattle.headers.specs.declared.frame.Frame.{Frame}
-use Rattle.node.specs.Rules.{
-  accepted,
-  refuse,
-  Kind,
-  cid,
-  rid,
-  amd,
-  ame,
-  amr,
-  error_report,
-  reserved,
-  message_kind,
-  alias_in,
-  kind_in,
-  is_off,
-  is_permitted,
-  is_cid,
-  is_own,
-  with_amd,
-  with_report,
-  waits,
-  same_alias,
-  addressed_at,
-  addressed,
-  other_alias,
-  received,
-  done,
-  resulting,
-  on_receive,
-  receive,
-  outcome,
-}
+use Rattle.node.specs.Rules.{accepted, refuse, Kind, cid, rid, amd, ame, amr, error_report, reserved, message_kind, kind_in, is_off, is_permitted, is_cid, is_own, with_amd, with_report, waits, same_alias, addressed, other_alias, received, done, resulting, on_receive, receive, outcome}
 use Rattle.node.specs.declared.Node.{Node}
 
 module _ (n : Node) (f g : Frame) (b : But28 f g) where

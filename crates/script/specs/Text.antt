@@ -1,5 +1,5 @@
 -- Laws of the lines' texts: data, and how long a line can be.
-use Rattle.std.specs.Prelude.{◌≡◌, ℕ, suc, ◌+◌, ◌-◌, ◌*◌, ◌≤◌, ◌<◌, List, [], ◌++◌, Bool, true, false, cond, eqb, length, take}
+use Rattle.std.specs.Prelude.{◌≡◌, ℕ, suc, ◌-◌, ◌*◌, ◌≤◌, ◌<◌, List, [], ◌++◌, Bool, true, false, cond, eqb, length, take}
 use Rattle.std.proofs.Common.{ap, sym, ◌∙◌, arith, eq-eqb, ne_eqb, length-append, length-take, take_all}
 use Rattle.text.specs.Rules.{hex, without, decimal, space}
 use Rattle.text.specs.Hex.{length-hex, first-digits}

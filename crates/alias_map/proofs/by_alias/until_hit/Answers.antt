@@ -1,5 +1,4 @@
 use mathlib.Core.Path.{refl}
-use Prim.Native.Nat.{◌-◌}
 use native.Mathlib.Omega.{arith}
 use Rattle.alias_map.specs.Rules.{has_alias}
 use Rattle.alias_map.proofs.Places.{tells, starts-row, goes_on, ends-row, met-none, met-hit}

@@ -1,5 +1,4 @@
 use mathlib.Core.Path.{refl, subst}
-use Prim.Native.Nat.{◌-◌}
 use native.Mathlib.Omega.{arith}
 use Rattle.alias_map.specs.Answers.{key_as}
 use Rattle.alias_map.proofs.Places.{tells, AtRow, InRow, starts-row, goes_on, ends-row, found_none, found-hit}

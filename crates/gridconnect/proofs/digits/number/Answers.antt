@@ -1,4 +1,3 @@
-use Prim.Native.Nat.{◌-◌}
 use native.Mathlib.Omega.{arith}
 use Rattle.gridconnect.specs.Digits.{none_yet, one_more, all_read, are-not, below-60-bits}
 use borrow.Author.Rules.{rules}

@@ -1,5 +1,4 @@
 use Rattle.node.specs.Rules.{on_enquiry}
-use borrow.Author.Tests.{not-true, not-false}
 use mathlib.Core.Path.{◌∙◌, sym, refl}
 use Rattle.node.proofs.Node.enquiry.Goals as goal
 

@@ -1,5 +1,5 @@
 use mathlib.Core.Path.{◌≡◌, sym, subst, ◌∙◌}
-use Prim.Native.Nat.{ℕ, ◌-◌}
+use Prim.Native.Nat.{ℕ}
 use native.Mathlib.Omega.{arith}
 use Rattle.segment_rules.specs.Rules.{places}
 use Rattle.table.specs.Parts.{Each, broadcast}

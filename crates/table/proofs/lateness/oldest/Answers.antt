@@ -2,7 +2,7 @@ use Rattle.table.proofs.Rounds.{oldest-none, oldest-more}
 use Rattle.segment_rules.specs.Rules.{places}
 use Rattle.table.specs.Parts.{Oldest}
 use mathlib.Core.Path.{◌≡◌, subst}
-use Prim.Native.Nat.{ℕ, ◌-◌}
+use Prim.Native.Nat.{ℕ}
 use native.Mathlib.Omega.{arith}
 use Rattle.table.proofs.lateness.oldest.Goals as goal
 

@@ -1,5 +1,4 @@
 use mathlib.Core.Path.{sym, ◌∙◌}
-use Prim.Native.Nat.{◌-◌}
 use native.Mathlib.Omega.{arith}
 use Rattle.segment_rules.specs.Rules.{has_id}
 use Rattle.table.proofs.Rounds.{none_more, found_at, found_nowhere}

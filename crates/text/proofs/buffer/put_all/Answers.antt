@@ -1,5 +1,4 @@
 use mathlib.Core.Path.{refl, ◌∙◌}
-use Prim.Native.Nat.{◌-◌}
 use Rattle.text.specs.Sheet.{blank, more_of, all_of}
 use native.Mathlib.Omega.{arith}
 use Rattle.text.proofs.buffer.put_all.Goals as goal

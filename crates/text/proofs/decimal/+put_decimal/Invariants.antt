@@ -1,6 +1,3 @@
-use Rattle.std.proofs.Common.{◌<◌, ◌≡◌, ℕ, ◌+◌, ◌-◌, ◌*◌, ◌≤◌, length}
-use Rattle.text.specs.Rules.{decimal, sheet, Wrote}
-use Rattle.text.specs.Decimal.{last_two, last_four}
 use Rattle.text.proofs.decimal.+put_decimal.Given as goal
 
 -- proposed from what the function passes where it calls itself
