@@ -8,12 +8,12 @@ use lib.Dec.{eqb, ltb}
 use lib.ListN.{length, get_or, set, length-set, length-append}
 use lib.Seq.{get_or-append_seam}
 use borrow.Author.Tests.{eq-eqb, eqb-true, ltb-true, ltb-false, le-leb, lt-leb}
-use Rattle.headers.specs.Laws.{both}
+use Rattle.headers.proofs.Laws.{both}
 use Rattle.alias_map.specs.Rules.{Answer, accepted, refused, after, alias_in, id_in, room, has_alias, has_id, has_either, without, add, look_up}
 use Rattle.alias_map.specs.Words.{entry_from, entry_at, entries_in, entries_of}
 use Rattle.alias_map.specs.Answers.{Gives}
 use Rattle.alias_map.specs.Parts.{Counted, Found, Met, Kept, Removed}
-use Rattle.alias_map.specs.Laws.{without-append}
+use Rattle.alias_map.proofs.Laws.{without-append}
 use Rattle.alias_map.specs.declared.answer.Answer as A
 use Rattle.alias_map.specs.declared.answer.Answer.TheVariants.{Accepted, Refused}
 use Rattle.alias_map.specs.declared.answer.Refusal.TheVariants.{Malformed, Full}

@@ -7,7 +7,8 @@ use native.Mathlib.Omega.{arith}
 use lib.ListN.{length, get_or, take, drop}
 use lib.Seq.{length-take-le, take-length, split_at}
 use Rattle.alias_map.specs.Rules.{accepted, refused, without, look_up}
-use Rattle.alias_map.specs.Laws.{without-length, count, found_at, not_found}
+use Rattle.alias_map.specs.Laws.{count}
+use Rattle.alias_map.proofs.Laws.{without-length, found_at, not_found}
 use Rattle.alias_map.specs.declared.entry.Entry.{Entry}
 
 module _ (p : Entry → Bool) (d : Entry) where

@@ -1,4 +1,10 @@
--- Laws that the proofs of the crate's functions share, in the order of their use.
+-- What is proved of the rules, in reading order; below it what the proofs of functions share.
+pub mod Bit28
+pub mod Laws
+pub mod Sound
+pub mod Order
+pub mod Lists
+pub mod Examples
 pub mod Hits
 pub mod Places
 pub mod Given

@@ -12,7 +12,7 @@ use borrow.Author.Tests.{eqb-true, eqb-false, ltb-true, ltb-false}
 use Rattle.alias_map.specs.Rules.{room, without}
 use Rattle.alias_map.specs.Words.{words, entry_from, entry_at, entries_in, count_of, entries_of}
 use Rattle.alias_map.specs.Parts.{Before, Found, Met, Kept}
-use Rattle.alias_map.specs.Laws.{without-append}
+use Rattle.alias_map.proofs.Laws.{without-append}
 use Rattle.alias_map.specs.declared.entry.Entry.{Entry}
 use Rattle.alias_map.proofs.Hits.{None, without-none}
 

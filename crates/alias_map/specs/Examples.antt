@@ -1,9 +1,7 @@
--- A worked example of the map's rules: notes and look-ups one after another, each with what it answers.
-use Rattle.std.specs.Prelude.{◌≡◌, refl, List, [], ◌∷◌, map, ℕ, ◌+◌, ◌*◌, ◌^◌}
-use Rattle.headers.specs.Frames.{malformed}
-use Rattle.headers.specs.Rules.{kind_in}
-use Rattle.alias_map.specs.Rules.{accepted, refused, without, add, define, note_kind, note, first, compared, id_of, alias_of}
-use Rattle.alias_map.specs.Lists.{Call, noting, by_alias, by_id, Answered, noted, looked_up, answers}
+-- What the theorems of proofs/Examples.antt speak of; these definitions are to be believed.
+use Rattle.std.specs.Prelude.{List, [], ◌∷◌, ℕ, ◌+◌, ◌*◌, ◌^◌}
+use Rattle.alias_map.specs.Rules.{accepted, refused}
+use Rattle.alias_map.specs.Lists.{Call, noting, by_alias, by_id, Answered, noted, looked_up}
 use Rattle.alias_map.specs.declared.entry.Entry.{Entry}
 
 -- Three nodes that are seen on the bus.
@@ -70,7 +68,3 @@ example =
     ∷ line (by_alias 0x264) (found b.id 2)
     ∷ line (by_id c.id) (found 0x265 1)
     ∷ []
-
-pub example-holds : answers [] (map (λ l. l.call) example) ≡ map (λ l. l.answered) example
-unfolding answers note note_kind define add without first compared id_of alias_of malformed kind_in
-example-holds = refl

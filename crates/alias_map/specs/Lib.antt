@@ -1,6 +1,5 @@
--- What the crate's contracts cite and what is proved of it, in reading order.
+-- What the crate's contracts cite, and what its theorems speak of, in reading order.
 pub mod Rules
-pub mod Bit28
 pub mod Words
 pub mod Answers
 pub mod Parts

@@ -1,7 +1,6 @@
--- What the crate's contracts cite and what is proved of it, in reading order.
+-- What the crate's contracts cite, and what its theorems speak of, in reading order.
 pub mod Claim
 pub mod Sharp
-pub mod Turns
 pub mod EachNode
 pub mod Single
 pub mod NodeIds

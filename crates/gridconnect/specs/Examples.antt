@@ -1,8 +1,7 @@
--- Frames and texts by which A.7's rules can be tried, as one statement over the list.
-use Rattle.std.specs.Prelude.{◌≡◌, refl, List, [], ◌∷◌, ℕ, length}
+-- What the theorems of proofs/Examples.antt speak of; these definitions are to be believed.
+use Rattle.std.specs.Prelude.{◌≡◌, List, [], ◌∷◌, ℕ, length}
 use Rattle.headers.specs.Rules.{Answer, accepted, refused}
-use Rattle.text.specs.Rules.{digit, hex}
-use Rattle.gridconnect.specs.Rules.{text_of, write, length_of, buffer_of, value, are_digits, number_from, framed, read, raised}
+use Rattle.gridconnect.specs.Rules.{write, length_of, buffer_of, read, raised}
 
 pub data Example : Type 0 where
   -- in this room this header with so many of these data bytes is written as this text
@@ -104,8 +103,3 @@ examples =
     ∷ raises (58 ∷ 88 ∷ 49 ∷ 102 ∷ 102 ∷ 102 ∷ 102 ∷ 102 ∷ 102 ∷ 102 ∷ 78 ∷ 97 ∷ 98 ∷ 65 ∷ 66 ∷ 59 ∷ []) (58 ∷ 88 ∷ 49 ∷ 70 ∷ 70 ∷ 70 ∷ 70 ∷ 70 ∷ 70 ∷ 70 ∷ 78 ∷ 65 ∷ 66 ∷ 65 ∷ 66 ∷ 59 ∷ [])
     ∷ raises (96 ∷ 97 ∷ 122 ∷ 123 ∷ []) (96 ∷ 65 ∷ 90 ∷ 123 ∷ [])
     ∷ []
-
-pub examples-hold : All examples
-unfolding digit hex text_of value are_digits number_from framed read
-examples-hold =
-    (refl, (refl, (refl, (refl, (refl, (refl, (refl, (refl, (refl, (refl, (refl, (refl, (refl, (refl, (refl, (refl, (refl, (refl, (refl, (refl, (refl, (refl, (refl, (refl, (refl, (refl, (refl, (refl, (refl, (refl, (refl, (refl, (refl, (refl, (refl, (refl, (refl, (refl, (refl, (refl, (refl, (refl, (refl, (refl, (refl, (refl, ((refl, refl), ((refl, refl), ((refl, refl), (refl, (refl, tt)))))))))))))))))))))))))))))))))))))))))))))))))))

@@ -1,10 +1,10 @@
--- Laws of a text that is written piece by piece: its data byte by byte, the whole of it, and how long it is.
-use Rattle.std.specs.Prelude.{◌≡◌, refl, ℕ, ◌+◌, ◌-◌, ◌*◌, ◌/◌, ◌^◌, ◌≤◌, ◌<◌, List, [], ◌∷◌, ◌++◌, length, take}
-use Rattle.std.proofs.Common.{subst, append_assoc, arith, length-append, length-take}
+-- What the theorems of proofs/Pieces.antt speak of; these definitions are to be believed.
+use Rattle.std.specs.Prelude.{◌≡◌, ℕ, ◌+◌, ◌-◌, ◌*◌, ◌/◌, ◌^◌, ◌<◌, List, [], ◌∷◌, ◌++◌, take}
+use Rattle.std.proofs.Common.{subst, arith}
 use Rattle.text.specs.Rules.{hex, Sheet, sheet, Wrote}
 use Rattle.text.specs.Sheet.{then, alike, placed}
-use Rattle.text.specs.Hex.{length-hex, next-byte}
-use Rattle.gridconnect.specs.Rules.{colon, letter_x, letter_n, semicolon, text_of}
+use Rattle.text.specs.Hex.{next-byte}
+use Rattle.gridconnect.specs.Rules.{colon, letter_x, letter_n}
 
 -- One data byte more.
 pub data-more : (bytes i : ℕ) {s : Sheet} {t u : List ℕ} → i < 8
@@ -21,12 +21,3 @@ data-all bytes count i {s} {t} e p = subst (λ (n : ℕ). Wrote s (take (2 * n) 
 -- The whole text: all but its end, and that.
 abbrev pub front : (header len bytes : ℕ) → List ℕ
 front header len bytes = ((((colon ∷ []) ++ (letter_x ∷ [])) ++ hex 8 header) ++ (letter_n ∷ [])) ++ take (2 * len) (hex 16 bytes)
-
-pub pieces : (header len bytes : ℕ) → front header len bytes ++ (semicolon ∷ []) ≡ text_of header len bytes
-unfolding text_of
-pieces header len bytes = rw (append_assoc, append_assoc, append_assoc) refl
-
-pub length-text : (header len bytes : ℕ) → len ≤ 8 → length (text_of header len bytes) ≡ 12 + 2 * len
-unfolding text_of
-length-text header len bytes h =
-    rw (length-append, length-append, length-hex 8 header, length-take (2 * len) (hex 16 bytes), length-hex 16 bytes) (omega arith)

@@ -1,1 +1,7 @@
--- Laws that the proofs of the crate's functions share, in the order of their use.
+-- What is proved of the rules, in reading order.
+pub mod Text
+pub mod Forms
+pub mod Scripts
+pub mod Turns
+pub mod Room
+pub mod Examples

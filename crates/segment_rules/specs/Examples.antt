@@ -1,65 +1,6 @@
--- Worked examples of the segment's rules: sentences of document 01, of A.1, of A.2, of A.6 and of A.8, each at one segment, all in
--- one statement.
-use Rattle.std.specs.Prelude.{◌≡◌, refl, Bool, true, false, cond, List, [], ◌∷◌, map, ℕ, eqb, replicate}
-use Rattle.headers.specs.Rules.{kind_in, mixed}
-use Rattle.node.specs.Rules.{
-  Answer,
-  accepted,
-  refused,
-  Value,
-  done,
-  left,
-  Due,
-  nothing,
-  next,
-  bare,
-  with_id,
-  none_waiting,
-  with_reply,
-  with_amd,
-  with_report,
-  with_error,
-  with_host,
-  off_node,
-  generator,
-  fresh,
-  restart,
-  moved,
-  counted,
-  waits,
-  linked,
-  cid_frame,
-  rid_frame,
-  amd_frame,
-  amr_frame,
-  report_frame,
-  error_frame,
-  is_own,
-  first_waiting,
-  due_of,
-  tick_of,
-  sent_permitted,
-  sent_of,
-  failed_of,
-  same_alias,
-  addressed,
-  other_alias,
-  received,
-  malformed,
-  used,
-  trimmed,
-  on_power_on,
-  on_leave,
-  on_fail,
-  host_orders,
-  on_message,
-  on_enquiry,
-  on_release,
-  link_told,
-  on_link,
-  on_warm_on,
-  read_out_of,
-}
+-- What the theorems of proofs/Examples.antt speak of; these definitions are to be believed.
+use Rattle.std.specs.Prelude.{◌≡◌, Bool, true, false, cond, List, [], ◌∷◌, map, ℕ, eqb, replicate}
+use Rattle.node.specs.Rules.{Answer, accepted, refused, Value, done, left, Due, nothing, next, bare, with_id, none_waiting, with_reply, with_amd, with_report, with_error, with_host, off_node, generator, fresh, restart, moved, counted, waits, linked}
 use Rattle.headers.specs.declared.frame.Frame.{Frame}
 use Rattle.node.specs.declared.Node.{Node}
 use Rattle.state.specs.declared.Phase.{Phase}
@@ -71,51 +12,8 @@ use Rattle.state.specs.declared.Link.TheVariants.{ErrorActive, ErrorPassive, Bus
 use Rattle.state.specs.declared.Error.{Error}
 use Rattle.state.specs.declared.Error.TheVariants.{Report0, Report1, Report2, Report3}
 use Rattle.state.specs.declared.Host.TheVariants.{Message, Enquiry}
-use Rattle.segment_rules.specs.Rules.{
-  limit,
-  place,
-  Segment,
-  segment,
-  blank,
-  first_mark,
-  start,
-  Command,
-  send,
-  tick,
-  foreign,
-  choose,
-  read_out,
-  power_on,
-  fail,
-  deliver,
-  message,
-  enquiry,
-  release,
-  link,
-  warm_on,
-  names,
-  nobody,
-  first_due,
-  some_other,
-  answer,
-  Besides,
-  plain,
-  chose,
-  gave,
-  step,
-  run,
-  answers,
-  Ages,
-  ages,
-  none,
-  ticks,
-  old,
-  aged,
-  kept,
-  no_ages,
-  is_kept,
-}
-use Rattle.segment_rules.specs.Looks.{Seen, seen, looks, frame_in, looks_in}
+use Rattle.segment_rules.specs.Rules.{limit, place, Segment, segment, blank, first_mark, start, Command, send, tick, foreign, choose, read_out, power_on, fail, deliver, message, enquiry, release, link, warm_on, names, nobody, answer, Besides, plain, chose, gave, step, run, answers, Ages, ages, none, ticks, aged, kept, no_ages, is_kept}
+use Rattle.segment_rules.specs.Looks.{Seen, looks, looks_in}
 
 pub data Example : Type 0 where
   -- on this segment, this command is answered so
@@ -768,37 +666,3 @@ of_warm_starts =
 
 abbrev pub examples : List (List Example)
 examples = of_answers ∷ of_places ∷ of_ages ∷ of_kept ∷ of_looks ∷ of_links ∷ of_reports ∷ of_node_ids ∷ of_choices ∷ of_warm_starts ∷ []
-
-pub examples-hold : AllOf examples
-unfolding first_due some_other run answers aged old kept seen looks frame_in looks_in off_node fresh restart moved counted waits linked cid_frame rid_frame amd_frame amr_frame report_frame error_frame is_own first_waiting due_of tick_of sent_permitted sent_of failed_of same_alias addressed other_alias received malformed used trimmed on_power_on on_leave on_fail host_orders on_message on_enquiry on_release link_told on_link on_warm_on read_out_of kind_in mixed
-examples-hold = (
-  (refl, (refl, (refl, (refl, (refl, (refl, (refl, (refl, (refl, (refl, (refl, (refl, (refl, (refl, (refl, (refl, (refl, (refl, (refl, (refl, (refl, (refl, (refl, (refl, (refl, (refl, (refl, (refl, (refl, (refl, (refl, (refl, tt)))))))))))))))))))))))))))))))),
-  (
-    (refl, (refl, (refl, (refl, (refl, (refl, (refl, (refl, (refl, (refl, (refl, (refl, (refl, (refl, (refl, (refl, (refl, (refl, (refl, (refl, (refl, (refl, ((refl, refl), ((refl, refl), tt)))))))))))))))))))))))),
-    (
-      ((refl, refl), ((refl, refl), ((refl, refl), ((refl, refl), ((refl, refl), ((refl, refl), ((refl, refl), ((refl, refl), ((refl, refl), ((refl, refl), ((refl, refl), ((refl, refl), ((refl, refl), ((refl, refl), ((refl, refl), ((refl, refl), ((refl, refl), ((refl, refl), ((refl, refl), ((refl, refl), ((refl, refl), tt))))))))))))))))))))),
-      (
-        (refl, (refl, (refl, (refl, (refl, (refl, (refl, (refl, (refl, (refl, (refl, (refl, (refl, (refl, tt)))))))))))))),
-        (
-          (refl, (refl, (refl, (refl, (refl, (refl, (refl, (refl, (refl, (refl, (refl, (refl, (refl, tt))))))))))))),
-          (
-            (refl, (refl, (refl, (refl, (refl, (refl, (refl, (refl, (refl, (refl, (refl, (refl, (refl, (refl, (refl, (refl, (refl, (refl, (refl, (refl, (refl, (refl, (refl, (refl, (refl, (refl, (refl, (refl, (refl, (refl, (refl, (refl, (refl, (refl, (refl, (refl, (refl, (refl, (refl, tt))))))))))))))))))))))))))))))))))))))),
-            (
-              (refl, (refl, (refl, (refl, (refl, (refl, tt)))))),
-              (
-                (refl, (refl, (refl, (refl, (refl, (refl, (refl, (refl, (refl, (refl, (refl, (refl, (refl, (refl, (refl, (refl, ((refl, refl), (refl, (refl, (refl, (refl, ((refl, refl), ((refl, refl), tt))))))))))))))))))))))),
-                (
-                  ((refl, refl), ((refl, refl), ((refl, refl), ((refl, refl), ((refl, refl), ((refl, refl), ((refl, refl), ((refl, refl), ((refl, refl), ((refl, refl), ((refl, refl), ((refl, refl), ((refl, refl), ((refl, refl), ((refl, refl), ((refl, refl), ((refl, refl), ((refl, refl), ((refl, refl), ((refl, refl), ((refl, refl), ((refl, refl), ((refl, refl), ((refl, refl), ((refl, refl), ((refl, refl), ((refl, refl), ((refl, refl), ((refl, refl), ((refl, refl), ((refl, refl), ((refl, refl), ((refl, refl), ((refl, refl), ((refl, refl), ((refl, refl), (refl, (refl, (refl, (refl, (refl, ((refl, refl), (refl, ((refl, refl), ((refl, refl), ((refl, refl), ((refl, refl), ((refl, refl), ((refl, refl), ((refl, refl), ((refl, refl), ((refl, refl), ((refl, refl), ((refl, refl), tt)))))))))))))))))))))))))))))))))))))))))))))))))))))),
-                  (
-                    (refl, (refl, (refl, (refl, (refl, (refl, (refl, (refl, (refl, (refl, (refl, (refl, (refl, (refl, (refl, (refl, (refl, (refl, (refl, (refl, (refl, (refl, (refl, (refl, (refl, (refl, (refl, (refl, (refl, (refl, (refl, ((refl, refl), ((refl, refl), ((refl, refl), ((refl, refl), (refl, (refl, (refl, ((refl, refl), (refl, (refl, (refl, (refl, (refl, ((refl, refl), ((refl, refl), ((refl, refl), ((refl, refl), ((refl, refl), ((refl, refl), ((refl, refl), ((refl, refl), ((refl, refl), ((refl, refl), ((refl, refl), ((refl, refl), ((refl, refl), ((refl, refl), ((refl, refl), ((refl, refl), ((refl, refl), ((refl, refl), ((refl, refl), ((refl, refl), ((refl, refl), ((refl, refl), ((refl, refl), ((refl, refl), ((refl, refl), ((refl, refl), ((refl, refl), ((refl, refl), (refl, (refl, (refl, (refl, (refl, ((refl, refl), ((refl, refl), tt))))))))))))))))))))))))))))))))))))))))))))))))))))))))))))))))))))))))))))))),
-                    tt,
-                  ),
-                ),
-              ),
-            ),
-          ),
-        ),
-      ),
-    ),
-  ),
-)

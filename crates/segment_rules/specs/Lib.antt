@@ -3,9 +3,6 @@ pub mod Rules
 pub mod Looks
 pub mod Limits
 pub mod Examples
-pub mod LimitLaws
-pub mod Others
-pub mod Passed
 pub mod ListsBut28
 pub mod Turns
 pub mod WarmStarts

@@ -2,7 +2,7 @@
 use Rattle.std.specs.Prelude.{◌≡◌, ℕ, ◌^◌, ◌<◌}
 use Rattle.std.proofs.Common.{arith}
 use Rattle.headers.specs.Rules.{bit_in, kind_of}
-use Rattle.headers.specs.Laws.{kind-written, alias-written}
+use Rattle.headers.proofs.Laws.{kind-written, alias-written}
 use Rattle.state.specs.Rules.{sent_header, alias_in, kind_in}
 
 pub sent-bit : (t f a : ℕ) → t < 2 → f < 2 ^ 15 → a < 2 ^ 12 → bit_in (sent_header t f a) ≡ 1

@@ -9,7 +9,8 @@ use borrow.Author.Tests.{not-true, eq-eqb, ne_eqb}
 use Rattle.node.specs.Rules.{Answer, accepted, refused, Value, is_off, Outcome, warm_on, on_power_on, on_warm_on}
 use Rattle.node.specs.declared.Node.{Node}
 use Rattle.state.specs.Answers.{is_refused}
-use Rattle.node.specs.Warm.{is_before15, power-before-15, warm-before-15, warm-refused}
+use Rattle.node.specs.Warm.{is_before15}
+use Rattle.node.proofs.Warm.{power-before-15, warm-before-15, warm-refused}
 use Rattle.segment_rules.specs.WarmStarts.{Same}
 use Rattle.segment_rules.specs.Rules.{places, orders, Command, one, some_other, has_id, Told, Effect, begins}
 use Rattle.table.specs.Words.{place_of, node_at, cell_at, view, view_ages, At}

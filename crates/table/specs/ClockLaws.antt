@@ -5,7 +5,7 @@ use Rattle.std.proofs.Common.{sym, ap, subst, ◌∙◌, arith, eq-eqb, eqb-true
 use Rattle.std.proofs.lemmas.Bool.{false≢true}
 use Rattle.std.proofs.lemmas.List.{map-append}
 use Rattle.node.specs.Rules.{Answer, accepted, refused, Value, uses, timed_at, held, held_of, timed_in, timed_for}
-use Rattle.node.specs.Events.{timed-other}
+use Rattle.node.proofs.EventLaws.{timed-other}
 use Rattle.headers.specs.declared.frame.Frame.{Frame}
 use Rattle.node.specs.declared.Node.{Node}
 use Rattle.state.specs.declared.Timed.{Timed}
@@ -42,7 +42,7 @@ use Rattle.segment_rules.specs.Rules.{
   old,
 }
 use Rattle.segment_rules.specs.Limits.{AgesTo, OutTo, InLimit}
-use Rattle.segment_rules.specs.LimitLaws.{out-any, old-ext}
+use Rattle.segment_rules.proofs.LimitLaws.{out-any, old-ext}
 use Rattle.pack.specs.Words.{round}
 use Rattle.table.specs.Words.{Item, item, Cell, frame_of, age_in, place_of, ages_of}
 use Rattle.table.specs.Parts.{cell_by, later, later_item, first_age, head_age}

@@ -4,7 +4,7 @@ use borrow.Author.Rules.{rules}
 use borrow.Author.Tests.{eq-eqb, ne_eqb}
 use Rattle.headers.specs.Rules.{Parts}
 use Rattle.alias_map.specs.Rules.{note}
-use Rattle.alias_map.specs.Sound.{notes}
+use Rattle.alias_map.proofs.Sound.{notes}
 use Rattle.alias_map.proofs.Given.{unchanged, malformed-still, in_frame}
 use Rattle.alias_map.proofs.note.note.Goals as goal
 

@@ -6,7 +6,7 @@ use lib.Dec.{eqb}
 use borrow.Author.Tests.{le-leb, lt-leb}
 use Rattle.headers.specs.Rules.{write}
 use Rattle.headers.specs.Answers.{bit_of, written_as}
-use Rattle.headers.specs.Laws.{bit-told}
+use Rattle.headers.proofs.Laws.{bit-told}
 use Rattle.card_api.specs.Out.{one, out-as}
 use Rattle.card_api.specs.Lcc.{write_any}
 use Rattle.card_api.proofs.lcc.lcc_write_header.Goals as goal

@@ -1,5 +1,5 @@
 use native.Mathlib.Omega.{arith}
-use Rattle.gridconnect.specs.Digits.{none_yet, one_more, all_read, are-not, below-60-bits}
+use Rattle.gridconnect.proofs.DigitLaws.{none_yet, one_more, all_read, are-not, below-60-bits}
 use borrow.Author.Rules.{rules}
 use Rattle.gridconnect.proofs.digits.number.Goals as goal
 

@@ -2,7 +2,7 @@ use Prim.Native.Nat.{ℕ, ◌-◌}
 use mathlib.Core.List.{List}
 use mathlib.Core.Path.{ap, ◌∙◌}
 use lib.ListN.{get_or}
-use Rattle.gridconnect.specs.Digits.{value-from, value_low, value-high}
+use Rattle.gridconnect.proofs.DigitLaws.{value-from, value_low, value-high}
 use Rattle.gridconnect.proofs.digits.value.Goals as goal
 
 pub returns-then-b-lt48 : goal.returns-then-b-lt48

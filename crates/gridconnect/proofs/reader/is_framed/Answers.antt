@@ -1,5 +1,5 @@
 use native.Mathlib.Omega.{arith}
-use Rattle.gridconnect.specs.Reading.{too_few, too_many, odd, no-colon, no-X, no-N, last-decides}
+use Rattle.gridconnect.proofs.Reading.{too_few, too_many, odd, no-colon, no-X, no-N, last-decides}
 use Rattle.gridconnect.proofs.reader.is_framed.Goals as goal
 
 pub returns-then-length-lt-SHORTEST : goal.returns-then-length-lt-SHORTEST

@@ -1,4 +1,4 @@
-use Rattle.gridconnect.specs.Digits.{pad-none, pad-shift}
+use Rattle.gridconnect.proofs.DigitLaws.{pad-none, pad-shift}
 use Rattle.gridconnect.proofs.reader.padded.Goals as goal
 
 pub returns-then-digits-eq0 : goal.returns-then-digits-eq0

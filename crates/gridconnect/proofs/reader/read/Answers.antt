@@ -1,7 +1,7 @@
 use mathlib.Core.Path.{refl, sym, ◌∙◌}
 use Rattle.gridconnect.specs.Rules.{value}
 use Rattle.text.specs.Table.{table_of}
-use Rattle.gridconnect.specs.Reading.{unframed}
+use Rattle.gridconnect.proofs.Reading.{unframed}
 use Rattle.gridconnect.proofs.reader.read.Goals as goal
 
 pub read_digits-requires : goal.read_digits-requires

@@ -4,8 +4,8 @@ use native.Mathlib.Omega.{arith}
 use lib.ListN.{length, drop, length-take}
 use borrow.Author.Rules.{rules}
 use Rattle.gridconnect.specs.Rules.{header_in}
-use Rattle.gridconnect.specs.Digits.{stands-as}
-use Rattle.gridconnect.specs.Reading.{fixed, data-number, data-as, wide, no_header, no-data, reads_as}
+use Rattle.gridconnect.proofs.DigitLaws.{stands-as}
+use Rattle.gridconnect.proofs.Reading.{fixed, data-number, data-as, wide, no_header, no-data, reads_as}
 use Rattle.gridconnect.proofs.reader.read_digits.Goals as goal
 
 pub slice_bounds-number-end : goal.slice_bounds-number-end

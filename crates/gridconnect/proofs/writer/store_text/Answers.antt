@@ -2,7 +2,7 @@ use native.Mathlib.Omega.{arith}
 use Rattle.text.specs.Rules.{digit}
 use Rattle.text.specs.Table.{table_of}
 use Rattle.text.specs.Sheet.{then, alike, placed}
-use Rattle.gridconnect.specs.Pieces.{pieces}
+use Rattle.gridconnect.proofs.Pieces.{pieces}
 use borrow.Author.Rules.{rules}
 use Rattle.gridconnect.proofs.writer.store_text.Goals as goal
 

@@ -1,5 +1,5 @@
 use native.Mathlib.Omega.{arith}
-use Rattle.gridconnect.specs.Writing.{long-header, long-data, short, gives}
+use Rattle.gridconnect.proofs.Writing.{long-header, long-data, short, gives}
 use Rattle.gridconnect.proofs.writer.write.Goals as goal
 
 pub returns-then-header-gt536870911 : goal.returns-then-header-gt536870911

@@ -1,4 +1,4 @@
-use Rattle.headers.specs.Laws.{step-low}
+use Rattle.headers.proofs.Laws.{step-low}
 use Rattle.headers.proofs.alias.step_from.Goals as goal
 
 pub returns : goal.returns

@@ -1,5 +1,5 @@
 use mathlib.Core.Path.{sym}
-use Rattle.headers.specs.Laws.{packed-id}
+use Rattle.headers.proofs.Laws.{packed-id}
 use Rattle.headers.proofs.node_id.packed_id.Goals as goal
 
 pub returns : goal.returns

@@ -1,6 +1,6 @@
 use mathlib.Core.Path.{◌∙◌, sym}
 use Rattle.node.specs.Rules.{on_receive}
-use Rattle.node.specs.Still.{taken-received}
+use Rattle.node.proofs.Still.{taken-received}
 use Rattle.node.proofs.Node.receives.Goals as goal
 
 pub returns-then-is_off : goal.returns-then-is_off

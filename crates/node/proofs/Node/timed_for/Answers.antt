@@ -1,4 +1,4 @@
-use Rattle.node.specs.Events.{timed-same, timed-other}
+use Rattle.node.proofs.EventLaws.{timed-same, timed-other}
 use mathlib.Core.Path.{◌∙◌, sym}
 use Rattle.node.proofs.Node.timed_for.Goals as goal
 

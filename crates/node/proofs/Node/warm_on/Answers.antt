@@ -3,7 +3,7 @@ use Prim.Native.Nat.{ℕ}
 use native.Mathlib.Omega.{arith}
 use Rattle.state.specs.Answers.{is_refused}
 use Rattle.node.specs.Rules.{Outcome, on_warm_on}
-use Rattle.node.specs.Warm.{warm-cold, warm-refused, warm-bad, warm-good, flag-above-1, state-above-48-bits}
+use Rattle.node.proofs.Warm.{warm-cold, warm-refused, warm-bad, warm-good, flag-above-1, state-above-48-bits}
 use Rattle.node.proofs.Node.warm_on.Goals as goal
 
 pub returns-then-flag-eq0 : goal.returns-then-flag-eq0

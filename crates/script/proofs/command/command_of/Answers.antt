@@ -1,4 +1,4 @@
-use Rattle.script.specs.Forms.{single, at_key, at_rest}
+use Rattle.script.proofs.Forms.{single, at_key, at_rest}
 use Rattle.script.specs.Rules.{form}
 use native.Mathlib.Omega.{arith}
 use Rattle.script.proofs.command.command_of.Goals as goal

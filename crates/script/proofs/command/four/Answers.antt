@@ -1,5 +1,5 @@
 use native.Mathlib.Omega.{arith}
-use Rattle.script.specs.Forms.{join}
+use Rattle.script.proofs.Forms.{join}
 use Rattle.script.proofs.command.four.Goals as goal
 
 pub returns : goal.returns

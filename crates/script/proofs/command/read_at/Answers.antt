@@ -4,7 +4,7 @@ use lib.ListN.{length, drop, length-drop}
 use Prim.Native.Nat.{◌-◌}
 use lib.Seq.{take_all}
 use Rattle.script.specs.Rules.{read_of}
-use Rattle.script.specs.Forms.{reads_end}
+use Rattle.script.proofs.Forms.{reads_end}
 use Rattle.script.proofs.command.read_at.Goals as goal
 
 pub returns-then-at-script : goal.returns-then-at-script

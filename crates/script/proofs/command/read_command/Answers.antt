@@ -1,4 +1,4 @@
-use Rattle.script.specs.Forms.{reads_end, reads-unknown, reads-cut, reads_whole, has-whole}
+use Rattle.script.proofs.Forms.{reads_end, reads-unknown, reads-cut, reads_whole, has-whole}
 use mathlib.Core.Path.{sym}
 use Rattle.script.proofs.command.read_command.Goals as goal
 

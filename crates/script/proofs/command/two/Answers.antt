@@ -1,5 +1,5 @@
 use native.Mathlib.Omega.{arith}
-use Rattle.script.specs.Forms.{pair}
+use Rattle.script.proofs.Forms.{pair}
 use Rattle.script.proofs.command.two.Goals as goal
 
 pub returns : goal.returns

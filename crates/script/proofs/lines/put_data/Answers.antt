@@ -1,7 +1,7 @@
 use native.Mathlib.Omega.{arith}
 use Rattle.text.specs.Rules.{hex}
 use Rattle.text.specs.Sheet.{blank, then, alike}
-use Rattle.script.specs.Text.{data-none, data-short, data-long}
+use Rattle.script.proofs.Text.{data-none, data-short, data-long}
 use mathlib.Core.List.{[], ◌∷◌, ◌++◌}
 use Prim.Native.Nat.{ℕ, ◌*◌}
 use mathlib.Core.Path.{ap, ◌∙◌}

@@ -1,4 +1,4 @@
-use Rattle.script.specs.Turns.{through-printed}
+use Rattle.script.proofs.Turns.{through-printed}
 use Rattle.script.proofs.program.run.Goals as goal
 
 pub returns : goal.returns

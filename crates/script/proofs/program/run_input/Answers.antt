@@ -1,4 +1,4 @@
-use Rattle.script.specs.Room.{whole-output}
+use Rattle.script.proofs.Room.{whole-output}
 use lib.Seq.{take_all, length-take-le}
 use mathlib.Core.Path.{refl, sym}
 use native.Mathlib.Omega.{arith}

@@ -1,6 +1,7 @@
 use Rattle.std.proofs.Common.{ℕ, List, ◌<◌, ◌∙◌, sym, ap, subst, drop, Bor}
 use Rattle.script.specs.Rules.{read_of}
-use Rattle.script.specs.Turns.{Standing, begin, standing-begun, standing_on, left, fewer}
+use Rattle.script.specs.Turns.{Standing, begin, left}
+use Rattle.script.proofs.Turns.{standing-begun, standing_on, fewer}
 use Rattle.script.proofs.program.run_through.Goals as goal
 
 pub loop-run-init : goal.loop-run-init

@@ -1,4 +1,4 @@
-use Rattle.script.specs.Turns.{by_read, turned-next, turned-stop, turned-end}
+use Rattle.script.proofs.Turns.{by_read, turned-next, turned-stop, turned-end}
 use Rattle.script.proofs.program.turn.Goals as goal
 
 pub returns-in-End : goal.returns-in-End

@@ -1,6 +1,7 @@
 use Rattle.std.proofs.Common.{◌≡◌, ◌∙◌, ap, drop, arith, length-drop}
 use Rattle.script.specs.Rules.{read_of}
-use Rattle.script.specs.Scripts.{taken, taken-within}
+use Rattle.script.specs.Scripts.{taken}
+use Rattle.script.proofs.Scripts.{taken-within}
 use Rattle.script.proofs.reader.next.Goals as goal
 
 -- what is taken lies within the script, or the place is behind its end

@@ -2,7 +2,7 @@ use mathlib.Core.Path.{◌∙◌, sym, ap}
 use borrow.Author.Tests.{eq-eqb, ne_eqb}
 use native.Mathlib.Omega.{arith}
 use Rattle.headers.specs.Rules.{Parts}
-use Rattle.headers.specs.Laws.{kind-told}
+use Rattle.headers.proofs.Laws.{kind-told}
 use Rattle.state.specs.Concerns.{concern}
 use Rattle.state.proofs.Tested.{same_test}
 use Rattle.state.proofs.concerns.concern_of.Goals as goal

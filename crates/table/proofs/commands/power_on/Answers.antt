@@ -1,5 +1,5 @@
 use Rattle.segment_rules.specs.Rules.{power_on, warm_on}
-use Rattle.segment_rules.specs.WarmStarts.{flag-0}
+use Rattle.segment_rules.proofs.WarmStarts.{flag-0}
 use Rattle.table.specs.Words.{view}
 use Rattle.table.proofs.PoweredOn.{carries_same}
 use Rattle.table.proofs.commands.power_on.Goals as goal

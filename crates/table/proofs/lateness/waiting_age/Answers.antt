@@ -1,6 +1,6 @@
 use mathlib.Core.Path.{◌∙◌, refl}
 use borrow.Author.Tests.{eq-eqb}
-use Rattle.node.specs.Events.{timed-same}
+use Rattle.node.proofs.EventLaws.{timed-same}
 use Rattle.pack.specs.Words.{since, timed_age}
 use Rattle.table.specs.Words.{node_at}
 use Rattle.table.proofs.lateness.waiting_age.Goals as goal

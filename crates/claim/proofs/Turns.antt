@@ -2,8 +2,10 @@
 use Rattle.std.specs.Prelude.{◌≡◌, refl, true, List, [], ◌∷◌, ◌++◌, ℕ, ◌<◌, ◌≤◌, length, drop}
 use Rattle.std.proofs.Common.{ap, ◌∙◌}
 use Rattle.segment_rules.specs.Rules.{places, Segment, Command, start, Told, step, run, answers}
-use Rattle.segment_rules.specs.Turns.{choices, due_at_each, named_in, within-24}
-use Rattle.claim.specs.Claim.{Carried, claim}
+use Rattle.segment_rules.specs.Turns.{choices, due_at_each, named_in}
+use Rattle.segment_rules.proofs.Turns.{within-24}
+use Rattle.claim.specs.Claim.{Carried}
+use Rattle.claim.proofs.Claim.{claim}
 
 -- the answers to the later part of a list
 later : (S : Segment) (before cs : List Command) → drop (length before) (answers S (before ++ cs)) ≡ answers (run S before) cs

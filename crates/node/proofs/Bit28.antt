@@ -5,7 +5,8 @@ use Rattle.std.proofs.Common.{◌∙◌}
 use Rattle.std.proofs.Math.Bool.{cond}
 use Rattle.std.proofs.Math.Dec.{eqb}
 use Rattle.headers.specs.Rules.{id_in}
-use Rattle.headers.specs.Bit28.{But28, alias-but-28, kind-but-28, malformed-but-28}
+use Rattle.headers.specs.Bit28.{But28}
+use Rattle.headers.proofs.Bit28.{alias-but-28, kind-but-28, malformed-but-28}
 use Rattle.headers.specs.declared.frame.Frame.{Frame}
 use Rattle.node.specs.Rules.{accepted, refuse, Kind, cid, rid, amd, ame, amr, error_report, reserved, message_kind, kind_in, is_off, is_permitted, is_cid, is_own, with_amd, with_report, waits, same_alias, addressed, other_alias, received, done, resulting, on_receive, receive, outcome}
 use Rattle.node.specs.declared.Node.{Node}

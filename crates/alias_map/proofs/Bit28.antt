@@ -1,6 +1,7 @@
 -- A.5: the map ignores bit 28.
 use Rattle.std.specs.Prelude.{◌≡◌, cond, List, eqb}
-use Rattle.headers.specs.Bit28.{But28, alias-but-28, kind-but-28, malformed-but-28}
+use Rattle.headers.specs.Bit28.{But28}
+use Rattle.headers.proofs.Bit28.{alias-but-28, kind-but-28, malformed-but-28}
 use Rattle.headers.specs.declared.frame.Frame.{Frame}
 use Rattle.alias_map.specs.Rules.{accepted, refuse, id_in, note_kind, note}
 use Rattle.alias_map.specs.declared.entry.Entry.{Entry}

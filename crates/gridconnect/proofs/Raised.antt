@@ -2,12 +2,12 @@
 use Rattle.std.specs.Prelude.{◌≡◌, refl, ℕ, suc, ◌+◌, ◌*◌, ◌/◌, ◌%◌, ◌<◌, Bool, true, false, cond, not, ◌||◌, List, [], ◌∷◌, ◌++◌, T, ltb, eqb, length}
 use Rattle.std.proofs.Common.{ap, sym, ◌∙◌, append-nil, arith, add-zero, add-suc, suc-add, zero-add, lt-ltb, ltb-true, ltb-false, eqb→eq}
 use Rattle.std.proofs.Math.Seq.{append_snoc}
-use Rattle.headers.specs.Laws.{both}
+use Rattle.headers.proofs.Laws.{both}
 use Rattle.text.specs.Rules.{digit, hex}
 use Rattle.text.specs.Hex.{hex-suc}
 use Rattle.text.specs.Table.{all_below, below}
 use Rattle.gridconnect.specs.Rules.{value, are_digits, number_from, number, raise, raised}
-use Rattle.gridconnect.specs.Digits.{value-high}
+use Rattle.gridconnect.proofs.DigitLaws.{value-high}
 
 -- a digit that is raised is the one that is written for its value
 abbrev raises : ℕ → Bool

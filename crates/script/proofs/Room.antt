@@ -8,56 +8,13 @@ use Rattle.text.specs.Rules.{Printed, PrintedWhole}
 use Rattle.text.specs.Sheet.{whole}
 use Rattle.node.specs.Rules as N
 use Rattle.node.specs.Rules.{Answer, accepted, refused, refuse, Value, done, wait, is_off, malformed, on_leave, read_out_of}
-use Rattle.node.specs.Refusals.{TwoDigits, two-refuse, two_digits}
-use Rattle.segment_rules.specs.Rules.{
-  places,
-  limit,
-  is_kept,
-  Place,
-  Segment,
-  start,
-  Act,
-  orders,
-  delivers,
-  Command,
-  one,
-  send,
-  tick,
-  foreign,
-  choose,
-  read_out,
-  some_other,
-  is_full,
-  is_empty,
-  then_refuse,
-  then_in_use,
-  answer_at,
-  id_in_use,
-  whether,
-  answer,
-  step,
-}
-use Rattle.script.specs.Rules.{
-  Found,
-  command,
-  refusal,
-  nothing,
-  read_of,
-  Script,
-  next,
-  stop,
-  end,
-  onward,
-  read_up_to,
-  script_of,
-  listed,
-  lines,
-  output_of,
-  output,
-  used,
-}
-use Rattle.script.specs.Scripts.{Bounded, bounded}
-use Rattle.script.specs.Text.{line-short, last-short}
+use Rattle.node.specs.Refusals.{TwoDigits}
+use Rattle.node.proofs.Refusals.{two-refuse, two_digits}
+use Rattle.segment_rules.specs.Rules.{places, limit, is_kept, Place, Segment, start, Act, orders, delivers, Command, one, send, tick, foreign, choose, read_out, some_other, is_full, is_empty, then_refuse, then_in_use, answer_at, id_in_use, whether, answer, step}
+use Rattle.script.specs.Rules.{Found, command, refusal, nothing, read_of, Script, next, stop, end, onward, read_up_to, script_of, listed, lines, output_of, output, used}
+use Rattle.script.specs.Scripts.{Bounded}
+use Rattle.script.proofs.Scripts.{bounded}
+use Rattle.script.proofs.Text.{line-short, last-short}
 
 -- THE SEGMENT'S REFUSALS have two digits at most
 

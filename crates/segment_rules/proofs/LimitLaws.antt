@@ -4,33 +4,11 @@ use Rattle.std.proofs.Common.{sym, ap, subst, ◌∙◌, arith, not-suc-le-zero,
 use Rattle.std.proofs.lemmas.Bool.{false≢true, eqb-false}
 use Rattle.std.proofs.Math.Bool.{or-true}
 use Rattle.node.specs.Rules.{uses, timed_at, HeldAlias, held, held_of, timed_in, timed_for}
-use Rattle.node.specs.Laws.{neither}
+use Rattle.node.proofs.Laws.{neither}
 use Rattle.node.specs.declared.Node.{Node}
 use Rattle.state.specs.declared.Timed.{Timed}
 use Rattle.state.specs.declared.Timed.TheVariants.{Untimed, Reply, Amr}
-use Rattle.segment_rules.specs.Rules.{
-  Place,
-  Segment,
-  Effect,
-  stays,
-  becomes,
-  begins,
-  reads,
-  gets,
-  rest,
-  place_by,
-  Ages,
-  ages,
-  ages_on,
-  ages_by,
-  pass_age,
-  passes,
-  any_old,
-  timed_old,
-  held_old,
-  old_at,
-  old,
-}
+use Rattle.segment_rules.specs.Rules.{Place, Segment, Effect, stays, becomes, begins, reads, gets, rest, place_by, Ages, ages, ages_on, ages_by, pass_age, passes, any_old, timed_old, held_old, old_at, old}
 use Rattle.segment_rules.specs.Limits.{AgesTo, OutTo, InLimit}
 
 -- TIME THAT DOES NOT PASS

@@ -5,10 +5,10 @@ use Rattle.std.proofs.Common.{ap, sym, subst, ◌∙◌, arith, length-take, len
 use Rattle.std.proofs.Math.Bool.{and-false, or-true}
 use borrow.Author.Tests.{le-leb, lt-leb, eq-eqb, ne_eqb, leb-true, eqb-true}
 use Rattle.headers.specs.Rules.{accepted, refused}
-use Rattle.headers.specs.Laws.{both}
+use Rattle.headers.proofs.Laws.{both}
 use Rattle.gridconnect.specs.Rules.{colon, letter_x, letter_n, semicolon, are_digits, number, header_in, data_in, framed, frame_in, read}
 use Rattle.gridconnect.specs.Answers.{Stands}
-use Rattle.gridconnect.specs.Digits.{stands-as}
+use Rattle.gridconnect.proofs.DigitLaws.{stands-as}
 use Rattle.gridconnect.specs.declared.digits.Parsed as P
 
 module _ (t : List ℕ) where

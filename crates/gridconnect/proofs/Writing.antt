@@ -7,7 +7,7 @@ use Rattle.text.specs.Rules.{sheet, Wrote}
 use Rattle.text.specs.Sheet.{printed, whole}
 use Rattle.gridconnect.specs.Rules.{text_of, write, length_of, buffer_of}
 use Rattle.gridconnect.specs.Answers.{written_as, Writes}
-use Rattle.gridconnect.specs.Pieces.{length-text}
+use Rattle.gridconnect.proofs.Pieces.{length-text}
 use Rattle.gridconnect.specs.declared.answer.Written as W
 
 module _ (header len bytes : ℕ) (old : List ℕ) where

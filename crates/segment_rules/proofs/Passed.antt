@@ -1,7 +1,7 @@
 -- What an accepted command has passed: none of its refusals stood.
 use Rattle.std.specs.Prelude.{◌≡◌, Bool, false, ◌&&◌, ℕ, ◌<◌, leb, eqb}
 use Rattle.std.proofs.Common.{leb-false}
-use Rattle.headers.specs.Laws.{not-accepted, passed}
+use Rattle.headers.proofs.Laws.{not-accepted, passed}
 use Rattle.node.specs.Rules.{Answer, accepted, refused, Value}
 use Rattle.segment_rules.specs.Rules.{places, Segment, Act, one, then_refuse, then_in_use, indexed, answer_at, id_in_use, answer}
 

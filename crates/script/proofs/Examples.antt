@@ -2,46 +2,9 @@
 use Rattle.std.specs.Prelude.{◌≡◌, refl, List, [], ◌∷◌, ℕ, take}
 use Rattle.text.specs.Rules.{digit, hex, decimal_up_to}
 use Rattle.headers.specs.Rules.{kind_in, mixed}
-use Rattle.node.specs.Rules.{
-  off_node,
-  fresh,
-  restart,
-  moved,
-  counted,
-  waits,
-  cid_frame,
-  rid_frame,
-  amd_frame,
-  amr_frame,
-  report_frame,
-  first_waiting,
-  due_of,
-  sent_of,
-  failed_of,
-  on_power_on,
-  on_warm_on,
-  on_leave,
-  accepted,
-  refused,
-  left,
-}
+use Rattle.node.specs.Rules.{off_node, fresh, restart, moved, counted, waits, cid_frame, rid_frame, amd_frame, amr_frame, report_frame, first_waiting, due_of, sent_of, failed_of, on_power_on, on_warm_on, on_leave, accepted, refused, left}
 use Rattle.segment_rules.specs.Rules.{some_other, old, kept}
-use Rattle.script.specs.Rules.{
-  number,
-  form,
-  refusal,
-  read_of,
-  onward,
-  read_up_to,
-  listed,
-  data_text,
-  answer_text,
-  line,
-  lines,
-  last_line,
-  output_of,
-  output,
-}
+use Rattle.script.specs.Rules.{number, form, refusal, read_of, onward, read_up_to, listed, data_text, answer_text, line, lines, last_line, output_of, output}
 
 -- 01 00 05 01 01 01 01 01 04 00 02 00 02 18
 pub script : List ℕ

@@ -11,15 +11,16 @@ use Rattle.std.proofs.lemmas.Nat.{shl-shr}
 use Rattle.std.proofs.Math.Seq.{append_snoc, take_at, drop_at, get_or_at}
 use Rattle.headers.specs.Rules.{Answer, accepted, refused}
 use Rattle.headers.specs.Frames.{used}
-use Rattle.headers.specs.Laws.{not-accepted, passed, was-accepted, neither, both}
+use Rattle.headers.proofs.Laws.{not-accepted, passed, was-accepted, neither, both}
 use Rattle.text.specs.Rules.{digit, hex}
 use Rattle.text.specs.Hex.{length-hex, first-bytes}
 use Rattle.text.specs.Table.{below}
 use Rattle.gridconnect.specs.Rules.{colon, letter_x, letter_n, semicolon, text_of, too_long, write, length_of, buffer_of, value, are_digits, number_from, number, header_in, data_in, framed, shaped, Frame, frame_in, read, raised}
-use Rattle.gridconnect.specs.Pieces.{front, pieces, length-text}
-use Rattle.gridconnect.specs.Digits.{are-append, are-one, number_append, number-one, in-bits}
-use Rattle.gridconnect.specs.Reading.{fixed, length-data, last-decides, reads}
-use Rattle.gridconnect.specs.Raised.{raised-digits}
+use Rattle.gridconnect.specs.Pieces.{front}
+use Rattle.gridconnect.proofs.Pieces.{pieces, length-text}
+use Rattle.gridconnect.proofs.DigitLaws.{are-append, are-one, number_append, number-one, in-bits}
+use Rattle.gridconnect.proofs.Reading.{fixed, length-data, last-decides, reads}
+use Rattle.gridconnect.proofs.Raised.{raised-digits}
 
 -- DIGITS THAT ARE WRITTEN
 
