@@ -13,8 +13,8 @@
  *    each frame that comes in is handed over by card_foreign.
  *
  * Data is one number of eight bytes, the first byte highest. Bytes past the length are ignored in what goes in, and are 0 in what
- * comes out. c/constants holds the numbers below to the proved sources. Link with target/staticlib/libcard_api.a, which
- * `rt staticlib card_api` writes.
+ * comes out. c/constants holds the numbers below to the proved sources. Link with crates/card_api/out/libcard_api.a,
+ * which `rt lib` writes in crates/card_api.
  */
 #ifndef CARD_H
 #define CARD_H

@@ -23,11 +23,11 @@ fn root() -> PathBuf {
 
 /// What the program prints for these bytes.
 fn segment(bytes: &[u8]) -> String {
-    let mut child = Command::new(root().join("target/bin/segment"))
+    let mut child = Command::new(root().join("crates/segment/out/segment"))
         .stdin(Stdio::piped())
         .stdout(Stdio::piped())
         .spawn()
-        .expect("rt check segment has built the program");
+        .expect("rt run has built the program in crates/segment");
     let mut stdin = child.stdin.take().expect("it is piped");
     let bytes = bytes.to_vec();
     // The program may have read all that it uses.

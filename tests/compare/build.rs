@@ -1,12 +1,12 @@
-//! Links the static libraries that `rt staticlib` wrote, and takes the sizes of a table, a map and the longest text from c/card.h.
+//! Links the static libraries that `rt lib` wrote, and takes the sizes of a table, a map and the longest text from c/card.h.
 
 use std::{env, fs};
 
 fn main() {
     let root = env::var("CARGO_MANIFEST_DIR").expect("cargo sets it");
-    let libraries = format!("{root}/../../target/staticlib");
-    println!("cargo:rustc-link-search={libraries}");
     for library in ["script_api", "card_api"] {
+        let libraries = format!("{root}/../../crates/{library}/out");
+        println!("cargo:rustc-link-search={libraries}");
         println!("cargo:rustc-link-lib=static={library}");
         println!("cargo:rerun-if-changed={libraries}/lib{library}.a");
     }

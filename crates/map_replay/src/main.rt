@@ -7,7 +7,9 @@ use alias_map::answer::{Answer, FoundAlias, FoundId, Refusal};
 use alias_map::layout::WORDS;
 use headers::alias::Alias;
 use headers::frame::Frame;
-use libc::{STDIN_FILENO, STDOUT_FILENO};
+use reading::read_full;
+use std::io;
+use std::io::Read;
 
 // More operations than this are not run.
 const MOST: usize = 100_000;
@@ -48,18 +50,18 @@ fn hex(n: u64) -> [u8; 12]
 }
 
 // How many entries were compared, at most 64, after a blank and before a line feed.
-fn write_compared(compared: usize) {
+fn write_compared(rt: &impl Print, compared: usize) -> io::Result<()> {
     let n = compared as u64 % 100;
     let text = [digit(n / 10), digit(n % 10), 10];
-    io::write_all(STDOUT_FILENO, b" ");
+    rt.write_all(b" ")?;
     if n < 10 {
-        io::write_all(STDOUT_FILENO, &text[1..]);
+        rt.write_all(&text[1..])
     } else {
-        io::write_all(STDOUT_FILENO, &text);
+        rt.write_all(&text)
     }
 }
 
-fn note(map: &mut [u64; WORDS], b: &[u8; 14]) {
+fn note(rt: &impl Print, map: &mut [u64; WORDS], b: &[u8; 14]) -> io::Result<()> {
     let f = Frame {
         kind: b[0],
         header: (number(b, 1, 5) % 0x1_0000_0000) as u32,
@@ -68,82 +70,78 @@ fn note(map: &mut [u64; WORDS], b: &[u8; 14]) {
     };
     let answer = alias_map::note::note(&mut *map, f);
     match answer {
-        Answer::Accepted => {
-            io::write_all(STDOUT_FILENO, b"ok\n");
-        }
+        Answer::Accepted => rt.write_all(b"ok\n"),
         Answer::Refused(r) => match r {
-            Refusal::Malformed => {
-                io::write_all(STDOUT_FILENO, b"refused 9\n");
-            }
-            Refusal::Full => {
-                io::write_all(STDOUT_FILENO, b"refused 12\n");
-            }
+            Refusal::Malformed => rt.write_all(b"refused 9\n"),
+            Refusal::Full => rt.write_all(b"refused 12\n"),
         },
     }
 }
 
-fn look_up_alias(map: &[u64; WORDS], b: &[u8; 14]) {
+fn look_up_alias(rt: &impl Print, map: &[u64; WORDS], b: &[u8; 14]) -> io::Result<()> {
     match alias_map::by_alias::id_of(map, Alias((number(b, 0, 2) % 0x1_0000) as u16)) {
         FoundId::Id { id, compared } => {
             let text = hex(id);
-            io::write_all(STDOUT_FILENO, b"ok ");
-            io::write_all(STDOUT_FILENO, &text);
-            write_compared(compared);
+            rt.write_all(b"ok ")?;
+            rt.write_all(&text)?;
+            write_compared(rt, compared)
         }
-        FoundId::Absent => {
-            io::write_all(STDOUT_FILENO, b"refused 13\n");
-        }
+        FoundId::Absent => rt.write_all(b"refused 13\n"),
     }
 }
 
-fn look_up_id(map: &[u64; WORDS], b: &[u8; 14]) {
+fn look_up_id(rt: &impl Print, map: &[u64; WORDS], b: &[u8; 14]) -> io::Result<()> {
     match alias_map::by_id::alias_of(map, number(b, 0, 6)) {
         FoundAlias::Alias { alias, compared } => {
             let text = hex(alias.0 as u64);
-            io::write_all(STDOUT_FILENO, b"ok ");
-            io::write_all(STDOUT_FILENO, &text[9..]);
-            write_compared(compared);
+            rt.write_all(b"ok ")?;
+            rt.write_all(&text[9..])?;
+            write_compared(rt, compared)
         }
-        FoundAlias::Absent => {
-            io::write_all(STDOUT_FILENO, b"refused 13\n");
-        }
+        FoundAlias::Absent => rt.write_all(b"refused 13\n"),
     }
 }
 
 // One operation: 0 notes a frame, 1 looks an alias up, 2 a Node ID, 3 begins with an empty map.
-fn carry_out(map: &mut [u64; WORDS], op: u8) {
+fn carry_out(
+    rt: &impl Print,
+    input: &mut impl Read,
+    map: &mut [u64; WORDS],
+    op: u8,
+) -> io::Result<()> {
     let mut b = [0u8; 14];
     match op {
         0 => {
-            io::read_full(STDIN_FILENO, &mut b);
-            note(&mut *map, &b);
+            read_full(input, &mut b)?;
+            note(rt, map, &b)
         }
         1 => {
-            io::read_full(STDIN_FILENO, &mut b[..2]);
-            look_up_alias(&*map, &b);
+            read_full(input, &mut b[..2])?;
+            look_up_alias(rt, map, &b)
         }
         2 => {
-            io::read_full(STDIN_FILENO, &mut b[..6]);
-            look_up_id(&*map, &b);
+            read_full(input, &mut b[..6])?;
+            look_up_id(rt, map, &b)
         }
         3 => {
-            io::write_all(STDOUT_FILENO, b"new\n");
-            alias_map::map::new(&mut *map);
+            rt.write_all(b"new\n")?;
+            alias_map::map::new(map);
+            Ok(())
         }
-        _ => {
-            io::write_all(STDOUT_FILENO, b"unknown\n");
-        }
+        _ => rt.write_all(b"unknown\n"),
     }
 }
 
-fn main() {
+fn main(rt: HostRuntime) -> io::Result<()> {
+    let mut input = rt.stdin();
     let mut map = [0u64; WORDS];
     alias_map::map::new(&mut map);
     for _ in 0..MOST {
         let mut op = [0u8; 1];
-        if io::read_full(STDIN_FILENO, &mut op) == 0 {
-            return;
+        if read_full(&mut input, &mut op)? == 0 {
+            return Ok(());
         }
-        carry_out(&mut map, op[0]);
+        carry_out(&rt, &mut input, &mut map, op[0])?;
     }
+    Ok(())
 }

@@ -1,10 +1,11 @@
 // Replays a corpus of scripts: each follows its length in 4 bytes, highest first; their outputs are written in order.
 #![tactic(auto)]
 
-ghost use Rattle.std.specs.Prelude.{◌≡◌, ◌<◌, ◌≤◌, length};
+ghost use Rattle.std.specs.Prelude.{◌≡◌, ◌<◌, ◌≤◌, length, IfOk};
 
-use libc::{STDIN_FILENO, STDOUT_FILENO};
+use reading::read_full;
 use script::program;
+use std::io;
 
 const CORPUS: usize = 524288;
 
@@ -30,36 +31,37 @@ fn length_of(a: u8, b: u8, c: u8, d: u8) -> usize
 }
 
 // The script at a place is run and its output written; the place after it, or the end where it is cut short.
-fn replayed(s: &[u8], at: usize, out: &mut [u8]) -> usize
+fn replayed(rt: &impl Print, s: &[u8], at: usize, out: &mut [u8]) -> io::Result<usize>
     requires { at < length s.now }
-    ensures { (at < result) × (result ≤ length s.now) }
+    ensures { IfOk result (λ end. (at < end) × (end ≤ length s.now)) }
 {
     if s.len() - at < 4 {
-        return s.len();
+        return Ok(s.len());
     }
     let n = length_of(s[at], s[at + 1], s[at + 2], s[at + 3]);
     let from = at + 4;
     if s.len() - from < n {
-        return s.len();
+        return Ok(s.len());
     }
     let end = from + n;
     let m = program::run(&s[from..end], out);
     if m <= out.len() {
-        io::write_all(STDOUT_FILENO, &out[..m]);
+        rt.write_all(&out[..m])?;
     }
-    end
+    Ok(end)
 }
 
-fn replay(s: &[u8], out: &mut [u8]) {
+fn replay(rt: &impl Print, s: &[u8], out: &mut [u8]) -> io::Result<()> {
     let mut at: usize = 0;
     while at < s.len() {
-        at = replayed(s, at, out);
+        at = replayed(rt, s, at, out)?;
     }
+    Ok(())
 }
 
-fn main() {
+fn main(rt: HostRuntime) -> io::Result<()> {
     let mut input = corpus();
-    let n = io::read_full(STDIN_FILENO, &mut input);
+    let n = read_full(&mut rt.stdin(), &mut input)?;
     let mut out = room();
-    replay(&input[..n], &mut out);
+    replay(&rt, &input[..n], &mut out)
 }

@@ -1,18 +1,19 @@
 // The program `segment`: a script on standard input, its lines on standard output.
 #![tactic(auto)]
 
-use libc::{STDIN_FILENO, STDOUT_FILENO};
+use reading::read_full;
 use script::program;
+use std::io;
 
 // Room for the longest output.
 fn room() -> [u8; program::ROOM] {
     [0u8; program::ROOM]
 }
 
-fn main() {
-    let mut input = io::large_buffer();
-    let n = io::read_full(STDIN_FILENO, &mut input);
+fn main(rt: HostRuntime) -> io::Result<()> {
+    let mut input = [0u8; program::INPUT];
+    let n = read_full(&mut rt.stdin(), &mut input)?;
     let mut out = room();
     let m = program::run_input(&input[..n], &mut out);
-    io::write_all(STDOUT_FILENO, &out[..m]);
+    rt.write_all(&out[..m])
 }
