@@ -15,7 +15,7 @@ use table::commands;
 use table::layout::WORDS;
 
 // Where a run stands: how many commands have their line, the place in the buffer, and whether there may be more to read.
-#[derive(Drop)]
+#[derive(Clone, Copy)]
 pub(crate) struct Progress {
     pub done: u64,
     pub place: usize,

@@ -6,7 +6,7 @@ ghost use Rattle.script.specs.Scripts.{taken};
 
 use crate::command::Read;
 
-#[derive(Drop)]
+#[derive(Clone, Copy)]
 pub struct Reader<'a> {
     pub script: &'a [u8],
     pub at: usize,
