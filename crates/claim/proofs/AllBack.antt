@@ -1,6 +1,6 @@
 -- A.9 for the whole card: after the switch-off what was read out of each node that was not Off is given back, at its own index on a new
--- table. All are accepted, and each node tests the alias that it had. What is given back, and what then stands at each place, come first;
--- these are to be believed, with the theorem at the end.
+-- table. All are accepted, and each node tests the alias that it had. What is given back, and what then stands at each place, is in
+-- specs/AllBack.antt; these are to be believed, with the theorem at the end.
 use Rattle.std.specs.Prelude.{◌≡◌, ◌≢◌, Bool, ◌&&◌, List, [], ◌∷◌, ◌++◌, ltb, eqb}
 use Rattle.std.proofs.Math.Path.{refl, sym, ap}
 use Rattle.std.proofs.Common.{subst, ◌∙◌, ⊎_elim, arith, lt-ltb, le-ltb, ltb-true, ltb-false, ne_eqb}
@@ -18,7 +18,7 @@ use Rattle.segment_rules.proofs.WarmStarts.{given_back}
 use Rattle.table.specs.Words.{node_at, view}
 use Rattle.table.specs.WordLaws.{eq-or-ne}
 use Rattle.table.specs.Promise.{plainly}
-use Rattle.claim.proofs.Single.{sound-run}
+use Rattle.claim.proofs.Runs.{sound-run}
 use Rattle.claim.proofs.NodeIds.{apart-run}
 use Rattle.claim.specs.Claim.{Carried}
 use Rattle.claim.proofs.Claim.{follows, claim, run-snoc, answers-snoc}

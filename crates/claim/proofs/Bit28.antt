@@ -10,7 +10,7 @@ use Rattle.segment_rules.specs.Rules.{places, limit, Command, start, Told, run}
 use Rattle.segment_rules.specs.ListsBut28.{ListsBut28, InboxesBut28}
 use Rattle.segment_rules.proofs.ListsBut28.{ignores-28}
 use Rattle.table.specs.Words.{node_at}
-use Rattle.claim.proofs.Single.{sound-run}
+use Rattle.claim.proofs.Runs.{sound-run}
 use Rattle.claim.specs.Claim.{Carried}
 use Rattle.claim.proofs.Claim.{claim}
 use Rattle.claim.specs.Bit28.{CarriedBut28}

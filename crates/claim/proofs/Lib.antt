@@ -3,6 +3,7 @@ pub mod Claim
 pub mod Sharp
 pub mod Turns
 pub mod Single
+pub mod Runs
 pub mod NodeIds
 pub mod Sight
 pub mod Bus

@@ -10,7 +10,7 @@ use Rattle.segment_rules.specs.Rules.{places, Place, Segment, start, orders, del
 use Rattle.segment_rules.proofs.Others.{none-such, starts-ask}
 use Rattle.segment_rules.proofs.Passed.{one-passed}
 use Rattle.claim.specs.EachNode.{OrderAt, by_order, each-node}
-use Rattle.claim.proofs.Single.{after_list}
+use Rattle.claim.proofs.Runs.{after_list}
 use Rattle.claim.specs.NodeIds.{Apart, AllApart}
 
 apart-same : (n m n' m' : Node) → SameId n n' → SameId m m' → Apart n m → Apart n' m'

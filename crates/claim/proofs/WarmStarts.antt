@@ -14,7 +14,7 @@ use Rattle.segment_rules.proofs.WarmStarts.{flag-0, given_back}
 use Rattle.table.specs.Words.{node_at, place_of, cell_at, late_of, view, view_ages}
 use Rattle.table.specs.WordLaws.{view-at}
 use Rattle.table.specs.Promise.{all_around, SoundWords, Carries, Tells, plainly, read}
-use Rattle.claim.proofs.Single.{sound-run}
+use Rattle.claim.proofs.Runs.{sound-run}
 use Rattle.claim.specs.Claim.{Carried}
 use Rattle.claim.proofs.Claim.{follows}
 use Rattle.claim.specs.WarmStarts.{FreeFor}

@@ -1,5 +1,4 @@
--- The papers' number and values for each case of the code's answers. The worked examples are named here, though not needed, so that
--- they are checked first: a wrong rule is then refused by one of them.
+-- The papers' number and values for each case of the code's answers.
 use Rattle.std.specs.Prelude.{◌≡◌, ℕ, ◌^◌, ◌<◌, true, false, List, length}
 use Rattle.headers.specs.Rules.{Answer, accepted, refused}
 use Rattle.gridconnect.specs.Rules.{write, length_of, buffer_of, are_digits, number, Frame}

@@ -1,4 +1,5 @@
--- A.5: two frames that differ in bit 28 alone. The two definitions are to be believed; the laws say what else is the same of both.
+-- A.5: two frames that differ in bit 28 alone. The two definitions, in specs/Bit28.antt, are to be believed; the laws say
+-- what else is the same of both.
 use Rattle.std.specs.Prelude.{◌≡◌, Bool, cond, ◌&&◌, ◌||◌, ℕ, ◌^◌, ◌<◌}
 use Rattle.std.proofs.Math.Path.{refl}
 use Rattle.std.proofs.Common.{le-leb, leb-true, leb-false, eqb-true}

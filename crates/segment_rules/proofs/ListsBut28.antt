@@ -1,6 +1,6 @@
 -- A.5 over lists: whatever bit 28 foreign equipment sends, every answer, every node and the mark are the same, the inboxes are too
--- but for that bit, and one list is kept where the other is. What two lists of commands and two segments are that differ in no more
--- stands first, and what is claimed of them (`RunsBut28`) last; these are to be believed.
+-- but for that bit, and one list is kept where the other is. What two lists of commands and two segments are that differ in no more,
+-- and what is claimed of them (`RunsBut28`), is in specs/ListsBut28.antt; these are to be believed.
 use Rattle.std.specs.Prelude.{◌≡◌, Bool, true, false, not, ◌&&◌, ◌||◌, List, [], ◌∷◌, ◌++◌, ltb, leb, eqb, length}
 use Rattle.std.proofs.Math.Path.{refl}
 use Rattle.std.proofs.Common.{ap, subst, ◌∙◌}

@@ -1,6 +1,6 @@
 -- A.8 over lists: a node that keeps a due frame is chosen within 24 choices, no matter what the others queue or receive; and within
--- 23 it need not be. How many choices a list has, when a node has a due frame at each of them, and when one of them names it stand
--- first; these are to be believed, with what `Within` says.
+-- 23 it need not be. How many choices a list has, when a node has a due frame at each of them, and when one of them names it, is
+-- in specs/Turns.antt; these are to be believed, with what `Within` says.
 use Rattle.std.specs.Prelude.{◌≡◌, refl, Bool, true, false, not, cond, ◌||◌, ◌⊎◌, List, [], ◌∷◌, ◌++◌, ℕ, zero, suc, ◌+◌, ◌-◌, ◌%◌, ◌<◌, ◌≤◌, ltb, replicate}
 use Rattle.std.proofs.Common.{sym, ap, ◌∙◌, true≢false, inl, inr, ⊎_elim, arith, not-suc-le-zero, ltb-true, ltb-false, eq-eqb}
 use Rattle.std.proofs.Math.Bool.{or-true}

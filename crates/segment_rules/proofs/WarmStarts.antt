@@ -1,5 +1,6 @@
 -- A.9: what is read out and given back at power-on brings the alias that the node had; and command 0A with flag 0 does to every segment
--- what command 01 does. `Same`, `back` and `Returns` are to be believed, with the laws that say them, `flag-0` and `given_back`.
+-- what command 01 does. `Same`, `back` and `Returns`, in specs/WarmStarts.antt, are to be believed, with the laws that say
+-- them, `flag-0` and `given_back`.
 use Rattle.std.specs.Prelude.{◌≡◌, refl, false, cond, [], ℕ, ◌<◌, leb, eqb}
 use Rattle.std.proofs.Common.{ap, subst, ◌∙◌, lt-ltb, eq-eqb}
 use Rattle.std.proofs.lemmas.Bool.{lt-leb}

@@ -1,4 +1,4 @@
--- What is to be believed of the segment and what is proved of it, in reading order.
+-- What is to be believed of the segment, and what its theorems speak of, in reading order.
 pub mod Rules
 pub mod Looks
 pub mod Limits

@@ -29,5 +29,5 @@ returns-in-Header c = let a = c.args in
 
 pub returns-in-Malformed : goal.returns-in-Malformed
 returns-in-Malformed c = let a = c.args in
-    let e = written a.bit a.class _ a.field a.alias (omega (arith, c.if-bit-gt1.false)) (omega (arith, c.if-class-gt1.false)) c.type_of-t.ensures in
-    out-as one (ap written_as (sym c.in-Malformed.is) ∙ c.write_header.ensures ∙ e) (record { number = c.malformed-in-Malformed.ensures; out = refl })
+    let same = written a.bit a.class _ a.field a.alias (omega (arith, c.if-bit-gt1.false)) (omega (arith, c.if-class-gt1.false)) c.type_of-t.ensures in
+    out-as one (ap written_as (sym c.in-Malformed.is) ∙ c.write_header.ensures ∙ same) (record { number = c.malformed-in-Malformed.ensures; out = refl })
