@@ -1,7 +1,7 @@
 use mathlib.Core.Path.{refl, ◌∙◌}
 use native.Mathlib.Omega.{arith}
 use Rattle.text.specs.Sheet.{blank}
-use Rattle.gridconnect.specs.Pieces.{data-more, data-all}
+use Rattle.gridconnect.proofs.Pieces.{data-more, data-all}
 use Rattle.gridconnect.proofs.writer.store_data.Goals as goal
 
 pub loop-i-init : goal.loop-i-init
