@@ -1,32 +1,31 @@
 -- What an operation gives, from what its parts promise: the entry that is found, and each way in which a note ends.
 use mathlib.Core.Path.{◌≡◌, sym, ap, subst, ◌∙◌}
-use mathlib.Core.Bool.{Bool, true, false, false≢true, ◌&&◌}
+use mathlib.Core.Bool.{Bool, true, false}
 use mathlib.Core.List.{List, [], ◌∷◌, ◌++◌, append-nil}
 use Prim.Native.Nat.{ℕ, ◌+◌, ◌-◌, ◌%◌, ◌^◌, ◌<◌, ◌≤◌}
 use native.Mathlib.Omega.{arith}
-use lib.Dec.{eqb, ltb}
+use lib.Dec.{ltb}
 use lib.ListN.{length, get_or, set, length-set, length-append}
 use lib.Seq.{get_or-append_seam}
-use borrow.Author.Tests.{eq-eqb, eqb-true, ltb-true, ltb-false, le-leb, lt-leb}
-use Rattle.headers.proofs.Laws.{both}
-use Rattle.alias_map.specs.Rules.{Answer, accepted, refused, after, alias_in, id_in, room, has_alias, has_id, has_either, without, add, look_up}
+use borrow.Author.Tests.{eq-eqb, ltb-true, ltb-false, le-leb, lt-leb}
+use Rattle.alias_map.specs.Rules.{Answer, accepted, refused, after, alias_in, id_in, room, has_either, without, add, look_up}
 use Rattle.alias_map.specs.Words.{entry_from, entry_at, entries_in, entries_of}
 use Rattle.alias_map.specs.Answers.{Gives}
 use Rattle.alias_map.specs.Parts.{Counted, Found, Met, Kept, Removed}
 use Rattle.alias_map.proofs.Laws.{without-append}
-use Rattle.alias_map.specs.declared.answer.Answer as A
-use Rattle.alias_map.specs.declared.answer.Answer.TheVariants.{Accepted, Refused}
+use Rattle.std.specs.Prelude.{Result, Ok, Err}
+use Rattle.alias_map.specs.declared.answer.Refusal.{Refusal}
 use Rattle.alias_map.specs.declared.answer.Refusal.TheVariants.{Malformed, Full}
 use Rattle.alias_map.specs.declared.entry.Entry.{Entry}
 use Rattle.alias_map.proofs.Hits.{misses, hits, without-none, hit-shorter, two-shorter}
 use Rattle.alias_map.proofs.Places.{entries-length, entry-at, entries-more, entries-put, counted, none_of}
 
 -- nothing changes
-pub unchanged : (t : List ℕ) → Gives t (accepted (entries_of t)) Accepted t
+pub unchanged : (t : List ℕ) → Gives t (accepted (entries_of t)) (Ok tt) t
 unchanged t = record { answer = λ j. accepted (entries_of t); still = λ e j. t }
 
 -- a malformed frame
-pub malformed-still : (t : List ℕ) → Gives t (refused 9) (Refused Malformed) t
+pub malformed-still : (t : List ℕ) → Gives t (refused 9) (Err Malformed) t
 malformed-still t = record { answer = λ j. refused 9; still = λ e j. t }
 
 -- the alias and the Node ID of a frame are within 12 and 48 bits
@@ -47,22 +46,29 @@ module _ (t : List ℕ) (n : ℕ) (c : Counted t n) where
 
   -- LOOKING UP
 
+  module _ (g : Entry → ℕ) (p : Entry → Bool) where
+    pub no-entry : Found p t n n → look_up g p (entries_of t) ≡ refused 13
+    no-entry f = ap (look_up g p) entries-are ∙ misses p (entry_from 0) g (entries_in n t) (none_of p t n inside f.before)
+
+    pub first-entry : (i : ℕ) → i < n → Found p t n i → look_up g p (entries_of t) ≡ accepted (record { value = g (entry_at t i); count = i + 1 })
+    first-entry i h f =
+        ap (look_up g p) entries-are
+        ∙ hits p (entry_from 0) g (entries_in n t) i (omega (arith, entries-length t n inside))
+        (λ j l. let b : j < n = omega arith in ap p (entry-at t n j b) ∙ f.before j l)
+        (ap p (entry-at t n i h) ∙ f.hit h)
+        ∙ (λ j. accepted (record { value = g (entry-at t n i h j); count = i + 1 }))
+
+  -- the same by how many entries are compared
   module _ (g : Entry → ℕ) (p : Entry → Bool) (k : ℕ) (m : Met p t n k) where
     pub absent : n < k → look_up g p (entries_of t) ≡ refused 13
-    absent h =
-        ap (look_up g p) entries-are
-        ∙ misses p (entry_from 0) g (entries_in n t) (none_of p t n inside (λ j l. m.first.before j (omega arith)))
+    absent h = no-entry g p (subst (Found p t n) (omega arith) m.first)
 
     pub present : k ≤ n → look_up g p (entries_of t) ≡ accepted (record { value = g (entry_at t (k - 1)); count = k })
     present h =
         let at : k - 1 < n = omega (arith, m.some) in
         let last : k - 1 + 1 ≡ k = omega (arith, m.some) in
-        let f : Found p t n (k - 1) = subst (Found p t n) (omega (arith, at)) m.first in
-        ap (look_up g p) entries-are
-        ∙ hits p (entry_from 0) g (entries_in n t) (k - 1) (omega (arith, entries-length t n inside))
-        (λ j l. let b : j < n = omega arith in ap p (entry-at t n j b) ∙ f.before j l)
-        (ap p (entry-at t n (k - 1) at) ∙ f.hit at)
-        ∙ (λ j. accepted (record { value = g (entry-at t n (k - 1) at j); count = last j }))
+        first-entry g p (k - 1) at (subst (Found p t n) (omega (arith, at)) m.first)
+        ∙ (λ j. accepted (record { value = g (entry_at t (k - 1)); count = last j }))
 
   -- REMOVING
 
@@ -90,7 +96,7 @@ module _ (t : List ℕ) (n : ℕ) (c : Counted t n) where
     length-is : length (entries_of t) ≡ n
     length-is = ap length entries-are ∙ entries-length t n inside
 
-    pub gives_none : n ≤ i → Gives t (accepted (without p (entries_of t))) Accepted t
+    pub gives_none : n ≤ i → Gives t (accepted (without p (entries_of t))) (Ok tt) t
     gives_none h = record { answer = ap accepted (sym (without_is h)); still = λ e j. t }
 
     module _ (k : ℕ) (t' : List ℕ) (r : Removed p t i n k t') where
@@ -100,16 +106,13 @@ module _ (t : List ℕ) (n : ℕ) (c : Counted t n) where
       rest-are : entries_in k t' ≡ without p (entries_of t)
       rest-are = kept.done ∙ ap (without p) (sym entries-are)
 
-      pub gives-fewer : i < n → Gives t (accepted (without p (entries_of t))) Accepted (set t' room k)
+      pub gives-fewer : i < n → Gives t (accepted (without p (entries_of t))) (Ok tt) (set t' room k)
       gives-fewer h = record {
         answer = ap accepted (counted t' k kept.long (omega (arith, c.most, r.most)) ∙ rest-are);
         still = λ e. absurd (omega (arith, shorter h, ap length e, length-is));
       }
 
 -- A NEW ENTRY
-
-same-entry : (x y : Entry) → x.alias.0 ≡ y.alias.0 → x.id ≡ y.id → x ≡ y
-same-entry x y a b = λ j. record { alias = record { 0 = a j }; id = b j }
 
 own : (n : Entry) → has_either n n ≡ true
 own n = simp (eq-eqb n.alias.0 n.alias.0 (λ j. n.alias.0))
@@ -122,10 +125,10 @@ module _ (t : List ℕ) (n : ℕ) (c : Counted t n) (w : ℕ) (e : Entry) (of_wo
   es = entries_of t
 
   -- what is given of the entry is given of its word
-  by_word : {x : A.Answer} {t' : List ℕ} → Gives t (add es e) x t' → Gives t (add es (entry_from w)) x t'
+  by_word : {x : Result (Unit {0}) Refusal} {t' : List ℕ} → Gives t (add es e) x t' → Gives t (add es (entry_from w)) x t'
   by_word {x} {t'} g = subst (λ (y : Entry). Gives t (add es y) x t') of_word g
 
-  pub no_room : room ≤ i → Gives t (add es (entry_from w)) (Refused Full) t
+  pub no_room : room ≤ i → Gives t (add es (entry_from w)) (Err Full) t
   unfolding add
   no_room h =
       let l : n ≤ i = omega (arith, c.most) in
@@ -144,17 +147,10 @@ module _ (t : List ℕ) (n : ℕ) (c : Counted t n) (w : ℕ) (e : Entry) (of_wo
       go true q r = omega (arith, shorter t n c p i f (q (λ j. true)), c.most)
       go false q r = omega (arith, ap length (without_is t n c p i f (r (λ j. false))), length-is t n c p i f, f.most, r (λ j. false))
 
-  abbrev newest : Bool
-  newest = eqb (i + 1) n && (has_alias e.alias.0 (entry_at t i) && has_id e.id (entry_at t i))
-
   -- the entry is there already, after all others
-  pub there-last : i < room → newest ≡ true → Gives t (add es (entry_from w)) Accepted t
+  pub there-last : i < room → i + 1 ≡ n → entry_at t i ≡ e → Gives t (add es (entry_from w)) (Ok tt) t
   unfolding without
-  there-last h q =
-      let a = both (eqb (i + 1) n) (has_alias e.alias.0 (entry_at t i) && has_id e.id (entry_at t i)) q in
-      let b = both (has_alias e.alias.0 (entry_at t i)) (has_id e.id (entry_at t i)) a.1 in
-      let last : i + 1 ≡ n = eqb-true (i + 1) n a.0 in
-      let is : entry_at t i ≡ e = same-entry (entry_at t i) e (eqb-true (entry_at t i).alias.0 e.alias.0 b.0) (eqb-true (entry_at t i).id e.id b.1) in
+  there-last h last is =
       let ends : es ≡ entries_in i t ++ entry_at t i ∷ [] =
       entries-are t n c ∙ ap (λ (j : ℕ). entries_in j t) (sym last) ∙ entries-more t i (omega (arith, c.long)) in
       let others : without p es ≡ entries_in i t =
@@ -202,11 +198,8 @@ module _ (t : List ℕ) (n : ℕ) (c : Counted t n) (w : ℕ) (e : Entry) (of_wo
         go true q s = absurd (fewer (q (λ j. true)))
         go false q s = let l = s (λ j. false) in omega (arith, l, met, long)
 
-    was-last : newest ≡ true
-    was-last =
-        let is : entry_at t i ≡ e = ap (entry_at t) last ∙ at-end in
-        let at : i + 1 ≡ n = ap (λ (j : ℕ). j + 1) last ∙ long in
-        simp (eq-eqb (i + 1) n at, eq-eqb (entry_at t i).alias.0 e.alias.0 (ap (λ (x : Entry). x.alias.0) is), eq-eqb (entry_at t i).id e.id (ap (λ (x : Entry). x.id) is))
+    pub was-last : (i + 1 ≡ n) × (entry_at t i ≡ e)
+    was-last = (ap (λ (j : ℕ). j + 1) last ∙ long, ap (entry_at t) last ∙ at-end)
 
   module _ (k : ℕ) (t' : List ℕ) (r : Removed p t i n k t') (h : i < room) where
     put : entries_of (set (set t' k w) room (k + 1)) ≡ without p es ++ e ∷ []
@@ -218,8 +211,8 @@ module _ (t : List ℕ) (n : ℕ) (c : Counted t n) (w : ℕ) (e : Entry) (of_wo
         ∙ entries-put t' k w (omega (arith, s.long))
         ∙ (λ j. rest j ++ sym of_word j ∷ [])
 
-    pub gives-added : newest ≡ false → Gives t (add es (entry_from w)) Accepted (set (set t' k w) room (k + 1))
+    pub gives-added : (i + 1 ≡ n → entry_at t i ≡ e → ⊥) → Gives t (add es (entry_from w)) (Ok tt) (set (set t' k w) room (k + 1))
     gives-added q = by_word (record {
       answer = ap accepted put ∙ sym (adds (few h));
-      still = λ x. absurd (false≢true (sym q ∙ was-last (sym (ap (λ (a : Answer (List Entry)). after a es) (adds (few h))) ∙ x)));
+      still = λ x. let b = was-last (sym (ap (λ (a : Answer (List Entry)). after a es) (adds (few h))) ∙ x) in absurd (q b.0 b.1);
     })

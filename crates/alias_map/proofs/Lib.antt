@@ -7,4 +7,5 @@ pub mod Lists
 pub mod Examples
 pub mod Hits
 pub mod Places
+pub mod Rows
 pub mod Given

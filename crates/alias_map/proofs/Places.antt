@@ -2,16 +2,17 @@
 use mathlib.Core.Path.{◌≡◌, sym, ap, subst, ◌∙◌}
 use mathlib.Core.Bool.{Bool, true, false}
 use mathlib.Core.List.{List, [], ◌∷◌, ◌++◌, map, append-nil}
-use Prim.Native.Nat.{ℕ, ◌+◌, ◌-◌, ◌*◌, ◌/◌, ◌%◌, ◌^◌, ◌<◌, ◌≤◌, min}
+use Prim.Native.Nat.{ℕ, ◌+◌, ◌*◌, ◌/◌, ◌%◌, ◌^◌, ◌<◌, ◌≤◌, min}
 use native.Mathlib.Numerals.{add-one}
 use native.Mathlib.Omega.{arith}
-use lib.Dec.{eqb, ltb}
+use lib.Dec.{eqb}
 use lib.ListN.{length, get_or, set, take, drop, length-set, length-map, get_or-map}
 use lib.Seq.{length-take-le, take-suc, take-set-le, get_or-set_same, get_or-take, get_or-drop, drop-drop, drop-set-lt, take-suc-set}
-use borrow.Author.Tests.{eqb-true, eqb-false, ltb-true, ltb-false}
+use borrow.Author.Tests.{eqb-true, eqb-false}
+use Rattle.std.specs.Fn.{Shared}
 use Rattle.alias_map.specs.Rules.{room, without}
 use Rattle.alias_map.specs.Words.{words, entry_from, entry_at, entries_in, count_of, entries_of}
-use Rattle.alias_map.specs.Parts.{Before, Found, Met, Kept}
+use Rattle.alias_map.specs.Parts.{Tests, Before, Found, Kept}
 use Rattle.alias_map.proofs.Laws.{without-append}
 use Rattle.alias_map.specs.declared.entry.Entry.{Entry}
 use Rattle.alias_map.proofs.Hits.{None, without-none}
@@ -63,12 +64,13 @@ counted t k long h =
 
 -- THE SEARCH
 
--- what the code's test of an entry says of its word
-pub tells : (p : Entry → Bool) (w : ℕ) {e : Entry} {b c : Bool} → b ≡ p e → e ≡ entry_from w → b ≡ c → p (entry_from w) ≡ c
-tells p w h s q = sym (h ∙ ap p s) ∙ q
+-- what the closure answers of a word's entry is what the test says of it
+pub told : {F : Type 0} (g : Shared F (Entry × Unit {0}) Bool) (f : F) (p : Entry → Bool) (w : ℕ) {e : Entry} {b c : Bool}
+    → Tests g f p → e ≡ entry_from w → g.post f (e, tt) b → b ≡ c → p (entry_from w) ≡ c
+told g f p w {e} {b} h s x q = sym (h w b (subst (λ (y : Entry). g.post f (y, tt) b) s x)) ∙ q
 
 module _ (p : Entry → Bool) (t : List ℕ) where
-  before_more : (i : ℕ) → Before p t i → p (entry_at t i) ≡ false → Before p t (i + 1)
+  pub before_more : (i : ℕ) → Before p t i → p (entry_at t i) ≡ false → Before p t (i + 1)
   before_more i b x k h = go (eqb k i) (λ q. eqb-true k i q) (λ q. eqb-false k i q)
     where
       go : (c : Bool) → (c ≡ true → k ≡ i) → (c ≡ false → k ≡ i → ⊥) → p (entry_at t k) ≡ false
@@ -80,33 +82,6 @@ module _ (p : Entry → Bool) (t : List ℕ) where
 
   pub found-hit : (n i : ℕ) → i < n → Before p t i → p (entry_at t i) ≡ true → Found p t n i
   found-hit n i h b x = record { most = omega arith; before = b; hit = λ l. x }
-
-  -- A search in rows of 8, k of n entries compared: between two rows, and j entries behind the start of one.
-  abbrev pub AtRow : (n k : ℕ) → Type 0
-  AtRow n k = (n ≤ room) × (k % 8 ≡ 0) × Before p t k
-
-  abbrev pub InRow : (n start j k : ℕ) → Type 0
-  InRow n start j k = AtRow n start × (start + 8 ≤ room) × (j ≤ 8) × (k ≡ start + j) × Before p t k
-
-  module _ (n start : ℕ) where
-    pub starts-row : start < n → AtRow n start → InRow n start 0 start
-    starts-row h r = (r, omega (arith, r.0, r.1), omega arith, omega arith, r.2)
-
-    pub goes_on : (j k : ℕ) → j < 8 → p (entry_at t k) ≡ false → InRow n start j k → InRow n start (j + 1) (k + 1)
-    goes_on j k h x r = (r.0, r.1, omega arith, omega (arith, r.3), before_more k r.4 x)
-
-    pub ends-row : (j k : ℕ) → 8 ≤ j → InRow n start j k → AtRow n k
-    ends-row j k h r = (r.0.0, omega (arith, r.0.1, r.2, r.3), r.4)
-
-  pub met-none : (n i : ℕ) → n ≤ i → Before p t i → Met p t n (n + 1)
-  met-none n i h b = record { some = omega arith; first = subst (Found p t n) (omega arith) (found_none n i h b) }
-
-  pub met-hit : (n i : ℕ) → Before p t i → p (entry_at t i) ≡ true → Met p t n (i + 1)
-  met-hit n i b x = record { some = omega arith; first = go (ltb i n) (λ q. ltb-true i n q) (λ q. ltb-false i n q) }
-    where
-      go : (c : Bool) → (c ≡ true → i < n) → (c ≡ false → n ≤ i) → Found p t n (min (i + 1 - 1) n)
-      go true q r = let h = q (λ j. true) in subst (Found p t n) (omega arith) (found-hit n i h b x)
-      go false q r = let h = r (λ j. false) in subst (Found p t n) (omega arith) (found_none n i h b)
 
   -- none of the first entries
   pub none_of : (i : ℕ) → i ≤ length t → Before p t i → None p (entry_from 0) (entries_in i t) (length (entries_in i t))

@@ -1,17 +1,18 @@
 -- What is sound of a map's entries: an empty map's are, and every note keeps it, refused ones too.
-use Rattle.std.specs.Prelude.{◌≡◌, refl, Bool, true, false, not, cond, ◌&&◌, List, [], ◌∷◌, ◌++◌, ℕ, ◌+◌, ◌^◌, ◌<◌, ◌≤◌, leb, eqb, length}
+use Rattle.std.specs.Prelude.{◌≡◌, refl, Bool, true, false, not, cond, ◌&&◌, List, [], ◌∷◌, ◌++◌, ℕ, ◌+◌, ◌^◌, ◌<◌, ◌≤◌, leb, eqb, length, Result, Ok, Err}
 use Rattle.std.proofs.Common.{sym, subst, ◌∙◌, arith, length-append, eq-eqb, leb-false}
 use Rattle.std.proofs.Math.Path.{ap}
 use Rattle.std.proofs.lemmas.Bool.{eqb-false}
 use Rattle.headers.specs.Frames.{malformed}
+use Rattle.alias_map.specs.Answers.{refusal_as}
 use Rattle.headers.specs.declared.frame.Frame.{Frame}
+use Rattle.alias_map.specs.declared.answer.Refusal.{Refusal}
 use Rattle.alias_map.specs.Rules.{Answer, accepted, refused, refuse, alias_in, kind_in, Kind, cid, rid, amd, ame, amr, error_report, reserved, message, room, has_alias, has_id, has_either, without, add, define, note_kind, entry_in, note, after}
 use Rattle.alias_map.specs.Words.{entries_of}
-use Rattle.alias_map.specs.Answers.{refusal_as, Gives}
+use Rattle.alias_map.specs.Answers.{Gives}
 use Rattle.alias_map.specs.Laws.{Implies, count}
 use Rattle.alias_map.proofs.Laws.{like-alias, like-id, without-length, count-append, count-without, count-removed}
 use Rattle.alias_map.specs.declared.entry.Entry.{Entry}
-use Rattle.alias_map.specs.declared.answer.Answer as A
 use Rattle.alias_map.specs.Sound.{Named, AllNamed, Sound, Keeps, Notes}
 
 pub empty-sound : Sound []
@@ -117,19 +118,19 @@ note-keeps es f hb h = go (malformed f) (eqb f.kind 0) (kind_in f.header)
     go false false k = h
 
 -- What a note leaves: the entries that the rules give.
-pub leaves : (t : List ℕ) (a : Answer (List Entry)) (x : A.Answer) (t' : List ℕ) → Gives t a x t' → entries_of t' ≡ after a (entries_of t)
-leaves t (accepted es) A.TheVariants.Accepted t' g = was es g.answer
+pub leaves : (t : List ℕ) (a : Answer (List Entry)) (x : Result (Unit {0}) Refusal) (t' : List ℕ) → Gives t a x t' → entries_of t' ≡ after a (entries_of t)
+leaves t (accepted es) (Ok u) t' g = was es g.answer
   where
     was : (es : List Entry) → ◌≡◌ {A = Answer (List Entry)} (accepted (entries_of t')) (accepted es) → entries_of t' ≡ es
     was es e = cc
-leaves t (accepted es) (A.TheVariants.Refused r) t' g = clash g.answer
+leaves t (accepted es) (Err r) t' g = clash g.answer
   where
     clash : ◌≡◌ {A = Answer (List Entry)} (refused (refusal_as r)) (accepted es) → entries_of t' ≡ es
     clash e = cc
 leaves t (refused number) x t' g = ap entries_of (g.still refl)
 
 -- So are the entries that a note leaves.
-pub gives-sound : (t : List ℕ) (a : Answer (List Entry)) (x : A.Answer) (t' : List ℕ) → Gives t a x t' → Keeps a
+pub gives-sound : (t : List ℕ) (a : Answer (List Entry)) (x : Result (Unit {0}) Refusal) (t' : List ℕ) → Gives t a x t' → Keeps a
     → Sound (entries_of t) → Sound (entries_of t')
 gives-sound t a x t' g k h = subst Sound (sym (leaves t a x t' g)) (go a k)
   where
@@ -137,7 +138,7 @@ gives-sound t a x t' g k h = subst Sound (sym (leaves t a x t' g)) (go a k)
     go (accepted es) s = s
     go (refused number) s = h
 
-pub notes : (t : List ℕ) (f : Frame) (x : A.Answer) (t' : List ℕ) → f.bytes < 2 ^ 64 → Gives t (note (entries_of t) f) x t' → Notes t f x t'
+pub notes : (t : List ℕ) (f : Frame) (x : Result (Unit {0}) Refusal) (t' : List ℕ) → f.bytes < 2 ^ 64 → Gives t (note (entries_of t) f) x t' → Notes t f x t'
 notes t f x t' hb g = record {
   gives = g;
   sound = λ h. gives-sound t (note (entries_of t) f) x t' g (note-keeps (entries_of t) f hb h) h;

@@ -1,15 +1,15 @@
 -- What the theorems of proofs/Lists.antt speak of; these definitions are to be believed.
-use Rattle.std.specs.Prelude.{◌≡◌, ℕ, List, [], ◌∷◌, map}
+use Rattle.std.specs.Prelude.{◌≡◌, ℕ, List, [], ◌∷◌, map, Result}
+use Rattle.headers.specs.declared.alias.Alias.{Alias}
 use Rattle.headers.specs.declared.frame.Frame.{Frame}
+use Rattle.alias_map.specs.declared.answer.Refusal.{Refusal}
 use Rattle.alias_map.specs.Rules.{Answer, entry_in, note, after, Finding, id_of, alias_of}
 use Rattle.alias_map.specs.Words.{entries_of}
 use Rattle.alias_map.specs.Answers.{answer_as, id_as, alias_as}
 use Rattle.alias_map.specs.Sound.{Sound, Notes}
 use Rattle.alias_map.specs.Order.{Within}
 use Rattle.alias_map.specs.declared.entry.Entry.{Entry}
-use Rattle.alias_map.specs.declared.answer.Answer as A
-use Rattle.alias_map.specs.declared.answer.FoundId as I
-use Rattle.alias_map.specs.declared.answer.FoundAlias as F
+use Rattle.alias_map.specs.declared.answer.Hit.{Hit}
 
 -- What can be done with a map, and what it answers: a note gives the entries that there are then, a look-up its finding.
 pub data Call : Type 0 where
@@ -53,13 +53,13 @@ frames (by_id i ∷ cs) = frames cs
 -- `note` ensures; the two equations are what `id_of` and `alias_of` ensure, which are lent the words and leave them.
 pub data Carried : List ℕ → List Call → List Answered → List ℕ → Type 0 where
   begun : {t : List ℕ} → Carried t [] [] t
-  then-note : {t t₁ t₂ : List ℕ} {f : Frame} {x : A.Answer} {cs : List Call} {xs : List Answered}
+  then-note : {t t₁ t₂ : List ℕ} {f : Frame} {x : Result (Unit {0}) Refusal} {cs : List Call} {xs : List Answered}
       → Notes t f x t₁ → Carried t₁ cs xs t₂
       → Carried t (noting f ∷ cs) (noted (answer_as x (entries_of t₁)) ∷ xs) t₂
-  then-by-alias : {t t₁ : List ℕ} {a : ℕ} {cs : List Call} {xs : List Answered} (x : I.FoundId)
+  then-by-alias : {t t₁ : List ℕ} {a : ℕ} {cs : List Call} {xs : List Answered} (x : Result (Hit ℕ) Refusal)
       → id_as x ≡ id_of (entries_of t) a → Carried t cs xs t₁
       → Carried t (by_alias a ∷ cs) (looked_up (id_as x) ∷ xs) t₁
-  then-by-id : {t t₁ : List ℕ} {i : ℕ} {cs : List Call} {xs : List Answered} (x : F.FoundAlias)
+  then-by-id : {t t₁ : List ℕ} {i : ℕ} {cs : List Call} {xs : List Answered} (x : Result (Hit Alias) Refusal)
       → alias_as x ≡ alias_of (entries_of t) i → Carried t cs xs t₁
       → Carried t (by_id i ∷ cs) (looked_up (alias_as x) ∷ xs) t₁
 

@@ -1,7 +1,8 @@
 -- What the parts of an operation promise: the count, the search, the removal.
 use Rattle.std.specs.Prelude.{◌≡◌, Bool, true, false, List, ℕ, ◌-◌, ◌<◌, ◌≤◌, min, length, drop}
+use Rattle.std.specs.Fn.{Shared}
 use Rattle.alias_map.specs.Rules.{room, without}
-use Rattle.alias_map.specs.Words.{words, entry_at, entries_in, count_of}
+use Rattle.alias_map.specs.Words.{words, entry_from, entry_at, entries_in, count_of}
 use Rattle.alias_map.specs.declared.entry.Entry.{Entry}
 
 -- There are n entries, and the map has its words.
@@ -9,6 +10,10 @@ pub record Counted (t : List ℕ) (n : ℕ) : Type 0 where
   pub count : n ≡ count_of t
   pub most : n ≤ room
   pub long : length t ≡ words
+
+-- The closure answers this test of every entry that a word holds.
+abbrev pub Tests : {F : Type 0} → Shared F (Entry × Unit {0}) Bool → F → (Entry → Bool) → Type 0
+Tests g f p = (w : ℕ) (b : Bool) → g.post f (entry_from w, tt) b → b ≡ p (entry_from w)
 
 -- The test holds of none of the first i entries.
 abbrev pub Before : (Entry → Bool) → List ℕ → ℕ → Type 0

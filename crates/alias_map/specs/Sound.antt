@@ -1,12 +1,12 @@
 -- What the theorems of proofs/Sound.antt speak of; these definitions are to be believed.
-use Rattle.std.specs.Prelude.{List, [], ◌∷◌, ℕ, ◌^◌, ◌<◌, ◌≤◌, length}
+use Rattle.std.specs.Prelude.{List, [], ◌∷◌, ℕ, ◌^◌, ◌<◌, ◌≤◌, length, Result}
 use Rattle.headers.specs.declared.frame.Frame.{Frame}
+use Rattle.alias_map.specs.declared.answer.Refusal.{Refusal}
 use Rattle.alias_map.specs.Rules.{Answer, accepted, refused, room, has_alias, has_id, note}
 use Rattle.alias_map.specs.Words.{entries_of}
 use Rattle.alias_map.specs.Answers.{Gives}
 use Rattle.alias_map.specs.Laws.{count}
 use Rattle.alias_map.specs.declared.entry.Entry.{Entry}
-use Rattle.alias_map.specs.declared.answer.Answer as A
 
 -- neither alias nor Node ID is 0, and they have 12 and 48 bits
 pub record Named (e : Entry) : Type 0 where
@@ -33,6 +33,6 @@ Keeps (refused number) = Unit {0}
 
 -- WHAT `note` PROMISES
 
-pub record Notes (before : List ℕ) (f : Frame) (x : A.Answer) (then : List ℕ) : Type 0 where
+pub record Notes (before : List ℕ) (f : Frame) (x : Result (Unit {0}) Refusal) (then : List ℕ) : Type 0 where
   pub gives : Gives before (note (entries_of before) f) x then
   pub sound : Sound (entries_of before) → Sound (entries_of then)

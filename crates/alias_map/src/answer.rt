@@ -1,45 +1,27 @@
-// What the map's operations answer: accepted, with what was found, or one of document 01's refusals.
-ghost use Rattle.std.specs.Prelude.{◌≡◌};
+// What the map's operations give, or why they are refused.
 ghost use Rattle.alias_map.specs.Answers.{refusal_as};
 
-use headers::alias::Alias;
+use headers::refusal::Numbered;
 
-#[derive(Clone, Copy)]
+// By the numbers of document 01.
+#[derive(Clone, Copy, Debug, PartialEq, Eq)]
 pub enum Refusal {
-    Malformed,
-    Full,
+    Malformed = 9,
+    Full = 12,
+    Absent = 13,
 }
 
-#[derive(Clone, Copy)]
-pub enum Answer {
-    Accepted,
-    Refused(Refusal),
-}
+impl Numbered for Refusal {
+    ghost number_of = { refusal_as };
 
-impl Refusal {
-    // Its number in document 01.
-    pub fn number(self) -> u8
-        ensures { result ≡ refusal_as self }
-    {
-        match self {
-            Refusal::Malformed => 9,
-            Refusal::Full => 12,
-        }
+    fn number(self) -> u8 {
+        self as u8
     }
 }
 
-// The number of the refusal that a look-up has where its entry is absent.
-pub const ABSENT: u8 = 13;
-
-// A look-up's answer: what was found, and how many entries were compared (A.4); no count where the entry is absent.
-#[derive(Clone, Copy)]
-pub enum FoundId {
-    Id { id: u64, compared: usize },
-    Absent,
-}
-
-#[derive(Clone, Copy)]
-pub enum FoundAlias {
-    Alias { alias: Alias, compared: usize },
-    Absent,
+// What a look-up found, and how many entries were compared (A.4).
+#[derive(Clone, Copy, Debug, PartialEq, Eq)]
+pub struct Hit<T> {
+    pub value: T,
+    pub compared: usize,
 }

@@ -1,8 +1,8 @@
 // The layout of a map in one array of words: where each word stands, said here alone in the code. The rules' side of it is
-// specs/Words.antt.
+// specs/Words.antt. One array with its count, and no map of the library's: C holds it, and nothing is allocated.
 
 // What a map is laid out for.
-#[derive(Clone, Copy)]
+#[derive(Clone, Copy, Debug, PartialEq, Eq)]
 pub struct Map;
 
 impl Map {
@@ -17,8 +17,6 @@ pub(crate) const COUNT: usize = Map::ROOM;
 
 // A search compares the entries of a row one after another before it looks again at how many entries there are.
 pub(crate) const ROW: usize = 8;
-
-pub(crate) const ROWS: usize = Map::ROOM / ROW;
 
 // WITHIN AN ENTRY'S WORD: the highest 12 bits are the alias, the lowest 48 the Node ID; the 4 between are ignored.
 

@@ -1,121 +1,91 @@
 // Noting a frame that was seen on the bus.
-ghost use Rattle.std.specs.Prelude.{◌≡◌, ◌&&◌, ◌+◌, ◌≤◌, eqb};
+ghost use Rattle.std.specs.Prelude.{◌≡◌, Ok};
 ghost use Rattle.headers.specs.Answers.{kind_as};
-ghost use Rattle.alias_map.specs.Rules.{room, has_alias, has_id, without, add, define, note_kind};
-ghost use Rattle.alias_map.specs.Words.{entry_from, entry_at, entries_of};
+ghost use Rattle.headers.specs.Rules.{accepted};
+ghost use Rattle.alias_map.specs.Rules.{has_alias, without, add, define, note_kind};
+ghost use Rattle.alias_map.specs.Words.{entry_from, entries_of};
 ghost use Rattle.alias_map.specs.Answers.{Gives};
 ghost use Rattle.alias_map.specs.Sound.{Notes};
-ghost use Rattle.headers.specs.Rules.{accepted};
 
-use crate::answer::{Answer, Refusal};
-use crate::entry::{Entry, Key, entry_in, word_of};
+use crate::answer::Refusal;
+use crate::entry::{Entry, entry_in, word_of};
 use crate::layout::{COUNT, Map, WORDS};
 use crate::map::len;
 use crate::remove::remove;
 use crate::search::find;
 use headers::alias::Alias;
 use headers::frame::Frame;
-use headers::header::Kind;
-
-// Whether place i is the last of n, and e stands there already.
-fn is_newest(map: &[u64; WORDS], i: usize, n: usize, e: Entry) -> bool
-    requires { (i ≤ n) × (n ≤ room) }
-    ensures { result ≡ (eqb (i + 1) n && (has_alias e.alias.0 (entry_at map.now i) && has_id e.id (entry_at map.now i))) }
-{
-    if i + 1 == n {
-        let last = entry_in(map[i]);
-        return last.is(e);
-    }
-    false
-}
+use headers::header::{Kind, parts_of};
+use headers::node_id::id_in;
 
 // A new entry: those with its alias or its Node ID go, and it is the newest. Nothing is written before it is known that
-// there is room.
-fn add(map: &mut [u64; WORDS], w: u64) -> Answer
+// there is room, nor where it is the newest already.
+fn add(map: &mut [u64; WORDS], w: u64) -> Result<(), Refusal>
     ensures { Gives map.old (add (entries_of map.old) (entry_from w)) result map.new }
 {
-    let e = entry_in(w);
-    let n = len(&*map);
-    let i = find(&*map, n, Key::Either(e));
+    let new = entry_in(w);
+    let replaced = move |e: Entry| e.alias == new.alias || e.id == new.id;
+    let n = len(map);
+    let i = find(map, n, replaced).unwrap_or(n);
     if Map::ROOM <= i {
-        return Answer::Refused(Refusal::Full);
+        return Err(Refusal::Full);
     }
-    if is_newest(&*map, i, n, e) {
-        return Answer::Accepted;
+    if i + 1 == n && entry_in(map[i]) == new {
+        return Ok(());
     }
-    let others = remove(&mut *map, i, n, Key::Either(e));
+    let others = remove(map, i, n, replaced);
     map[others] = w;
     map[COUNT] = others as u64 + 1;
-    Answer::Accepted
+    Ok(())
 }
 
 // An AMD with so many data bytes.
-fn define(map: &mut [u64; WORDS], len: u8, w: u64) -> Answer
+fn define(map: &mut [u64; WORDS], len: u8, w: u64) -> Result<(), Refusal>
     ensures { Gives map.old (define (entries_of map.old) len (entry_from w)) result map.new }
 {
     let e = entry_in(w);
-    let a = e.alias;
-    if len != 6 {
-        return Answer::Accepted;
+    if len != 6 || e.alias == Alias(0) || e.id == 0 {
+        return Ok(());
     }
-    if a.0 == 0 {
-        return Answer::Accepted;
-    }
-    if e.id == 0 {
-        return Answer::Accepted;
-    }
-    add(&mut *map, w)
+    add(map, w)
 }
 
 // An AMR: its alias goes.
-fn reset(map: &mut [u64; WORDS], a: Alias) -> Answer
-    ensures { Gives map.old (accepted (without (has_alias a.0) (entries_of map.old))) result map.new }
+fn reset(map: &mut [u64; WORDS], alias: Alias)
+    ensures { Gives map.old (accepted (without (has_alias alias.0) (entries_of map.old))) (Ok tt) map.new }
 {
-    let n = len(&*map);
-    let i = find(&*map, n, Key::Alias(a));
-    if i < n {
-        let others = remove(&mut *map, i, n, Key::Alias(a));
+    let released = move |e: Entry| e.alias == alias;
+    let n = len(map);
+    if let Some(i) = find(map, n, released) {
+        let others = remove(map, i, n, released);
         map[COUNT] = others as u64;
     }
-    Answer::Accepted
 }
 
 // An extended frame of this kind.
-fn note_kind(map: &mut [u64; WORDS], kind: Kind, len: u8, w: u64) -> Answer
+fn note_kind(map: &mut [u64; WORDS], kind: Kind, len: u8, w: u64) -> Result<(), Refusal>
     ensures { Gives map.old (note_kind (kind_as kind) (entries_of map.old) len (entry_from w)) result map.new }
 {
     match kind {
-        Kind::Amd => define(&mut *map, len, w),
+        Kind::Amd => define(map, len, w),
         Kind::Amr => {
-            let e = entry_in(w);
-            let a = e.alias;
-            reset(&mut *map, a)
+            reset(map, entry_in(w).alias);
+            Ok(())
         }
-        Kind::Cid {
-            number: _,
-            section: _,
-        } => Answer::Accepted,
-        Kind::Rid => Answer::Accepted,
-        Kind::Ame => Answer::Accepted,
-        Kind::ErrorReport(_) => Answer::Accepted,
-        Kind::Reserved => Answer::Accepted,
-        Kind::Message => Answer::Accepted,
+        _ => Ok(()),
     }
 }
 
 // Note a frame.
-pub fn note(map: &mut [u64; WORDS], f: Frame) -> Answer
+pub fn note(map: &mut [u64; WORDS], f: Frame) -> Result<(), Refusal>
     ensures { Notes map.old f result map.new }
 {
     if f.is_malformed() {
-        return Answer::Refused(Refusal::Malformed);
+        return Err(Refusal::Malformed);
     }
     if f.kind == 0 {
-        let p = headers::header::parts_of(f.header);
-        let kind = p.kind;
-        let alias = p.alias;
-        let w = word_of(alias, headers::node_id::id_in(f.bytes));
-        return note_kind(&mut *map, kind, f.len, w);
+        let p = parts_of(f.header);
+        return note_kind(map, p.kind, f.len, word_of(p.alias, id_in(f.bytes)));
     }
-    Answer::Accepted
+    Ok(())
 }

@@ -1,5 +1,6 @@
 -- An answer with a value, for C: its number, and the words of an out-buffer that then hold the value.
-use Rattle.std.specs.Prelude.{◌≡◌, List, [], ◌∷◌, ℕ}
+use Rattle.std.specs.Prelude.{◌≡◌, List, [], ◌∷◌, ℕ, Result, Ok, Err}
+use Rattle.std.specs.Fn.{Shared}
 use Rattle.std.proofs.Common.{subst}
 use Rattle.headers.specs.Rules.{Answer, accepted, refused}
 
@@ -21,6 +22,11 @@ module _ {A : Type 0} where
   -- what is put out for one answer is put out for its equal
   pub out-as : (words : A → List ℕ) {a b : Answer A} {r : ℕ} {before after : List ℕ} → a ≡ b → Out words a r before after → Out words b r before after
   out-as words {a} {b} {r} {before} {after} e o = subst (λ (x : Answer A). Out words x r before after) e o
+
+-- After a result the buffer holds what the closure gives of its value; what it held before, where it has none.
+abbrev pub PutOut : {F T E W : Type 0} → Shared F (T × Unit {0}) W → F → Result T E → (before after : W) → Type 0
+PutOut g f (Ok x) before after = g.post f (x, tt) after
+PutOut g f (Err e) before after = after ≡ before
 
 -- A value that is one number.
 abbrev pub one : ℕ → List ℕ

@@ -1,11 +1,18 @@
 // Extended data frames as GridConnect text for C (A.7).
-ghost use Rattle.std.specs.Prelude.{◌≡◌, length};
+ghost use Rattle.std.specs.Prelude.{◌≡◌, [], ◌∷◌, length};
 ghost use Rattle.gridconnect.specs.Rules.{write, length_of, buffer_of, read};
 ghost use Rattle.card_api.specs.Out.{Out, one};
 ghost use Rattle.card_api.specs.Grid.{frame_words};
 
-use crate::malformed;
-use gridconnect::answer::{NOT_GRIDCONNECT, Read, SHORT_BUFFER, Written};
+use crate::put_out;
+use gridconnect::answer::Frame;
+
+// The length as one word.
+fn length_words(n: usize) -> [u64; 1]
+    ensures { result ≡ one n }
+{
+    [n as u64]
+}
 
 // Writes the text, and how long it is.
 #[unsafe(no_mangle)]
@@ -19,14 +26,15 @@ pub extern "C" fn grid_write(
     ensures out { Out one (length_of (write (length text.old) header len bytes)) result written.old written.new }
     ensures text_after { text.new ≡ buffer_of (write (length text.old) header len bytes) text.old }
 {
-    match gridconnect::writer::write(text, header, len, bytes) {
-        Written::Text(length) => {
-            *written = [length as u64];
-            0
-        }
-        Written::Malformed => malformed(),
-        Written::Short => SHORT_BUFFER as u64,
-    }
+    let answer = gridconnect::writer::write(text, header, len, bytes);
+    put_out(answer, written, length_words)
+}
+
+// Header, length, data.
+fn frame_words(f: Frame) -> [u64; 3]
+    ensures { result ≡ f.header ∷ f.len ∷ f.bytes ∷ [] }
+{
+    [u64::from(f.header), u64::from(f.len), f.bytes]
 }
 
 // Writes header, length and data of the frame that the text stands for.
@@ -34,11 +42,6 @@ pub extern "C" fn grid_write(
 pub extern "C" fn grid_read(text: &[u8], frame: &mut [u64; 3]) -> u64
     ensures { Out frame_words (read text.now) result frame.old frame.new }
 {
-    match gridconnect::reader::read(text) {
-        Read::Frame { header, len, bytes } => {
-            *frame = [header as u64, len as u64, bytes];
-            0
-        }
-        Read::NotGridConnect => NOT_GRIDCONNECT as u64,
-    }
+    let answer = gridconnect::reader::read(text);
+    put_out(answer, frame, frame_words)
 }

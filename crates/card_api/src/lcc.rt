@@ -1,33 +1,22 @@
 // Headers and aliases for C, over the functions of layer 1.
-ghost use Rattle.std.specs.Prelude.{◌≡◌, ◌<◌};
+ghost use Rattle.std.specs.Prelude.{◌≡◌, [], ◌∷◌};
 ghost use Rattle.headers.specs.Rules.{read, first_alias, next_alias};
-ghost use Rattle.headers.specs.Answers.{type_of, kind_as, parts_as};
+ghost use Rattle.headers.specs.Answers.{kind_as, parts_as};
 ghost use Rattle.card_api.specs.Out.{Out, one};
 ghost use Rattle.card_api.specs.Lcc.{kind_code, kind_number, kind_section, parts_words, next_words, write_any};
 
-use crate::{code, malformed};
-use headers::alias::{Alias, First, Next};
-use headers::header::{Kind, Parts, Read, Type, Written};
-use state::{Answer, Refusal};
-
-fn bad_node_id() -> u64
-    ensures { result ≡ 3 }
-{
-    code(Answer::Refused(Refusal::BadNodeId))
-}
+use crate::put_out;
+use headers::alias::{Alias, Next, first_alias, next_alias};
+use headers::header::{self, Kind, Parts, Type, bit_28, type_bit};
+use headers::refusal::Refusal;
 
 // HEADERS
 
-// Of a number below 2.
-fn type_of(class: u8) -> Type
-    requires { class < 2 }
-    ensures { type_of result ≡ class }
+// The header as one word.
+fn header_words(h: u32) -> [u64; 1]
+    ensures { result ≡ one h }
 {
-    if class == 0 {
-        Type::Control
-    } else {
-        Type::Message
-    }
+    [u64::from(h)]
 }
 
 #[unsafe(no_mangle)]
@@ -40,30 +29,23 @@ pub extern "C" fn lcc_write_header(
 ) -> u64
     ensures { Out one (write_any bit class field alias) result header.old header.new }
 {
-    if 1 < bit {
-        return malformed();
-    }
-    if 1 < class {
-        return malformed();
-    }
-    let t = type_of(class);
-    match headers::header::write_header(bit == 1, t, field, Alias(alias)) {
-        Written::Header(h) => {
-            *header = [h as u64];
-            0
-        }
-        Written::Malformed => malformed(),
-    }
+    let written = match (bit, class) {
+        (0..=1, 0..=1) => header::write_header(
+            bit == 1,
+            Type::from(class == 1),
+            field,
+            Alias(alias),
+        ),
+        _ => Err(Refusal::Malformed),
+    };
+    put_out(written, header, header_words)
 }
 
 fn kind_code(kind: Kind) -> u64
     ensures { result ≡ kind_code (kind_as kind) }
 {
     match kind {
-        Kind::Cid {
-            number: _,
-            section: _,
-        } => 0,
+        Kind::Cid { .. } => 0,
         Kind::Rid => 1,
         Kind::Amd => 2,
         Kind::Ame => 3,
@@ -79,14 +61,8 @@ fn kind_number(kind: Kind) -> u64
     ensures { result ≡ kind_number (kind_as kind) }
 {
     match kind {
-        Kind::Cid { number, section: _ } => number as u64,
-        Kind::ErrorReport(number) => number as u64,
-        Kind::Rid => 0,
-        Kind::Amd => 0,
-        Kind::Ame => 0,
-        Kind::Amr => 0,
-        Kind::Reserved => 0,
-        Kind::Message => 0,
+        Kind::Cid { number, .. } | Kind::ErrorReport(number) => u64::from(number),
+        _ => 0,
     }
 }
 
@@ -95,14 +71,8 @@ fn kind_section(kind: Kind) -> u64
     ensures { result ≡ kind_section (kind_as kind) }
 {
     match kind {
-        Kind::Cid { number: _, section } => section.0 as u64,
-        Kind::ErrorReport(_) => 0,
-        Kind::Rid => 0,
-        Kind::Amd => 0,
-        Kind::Ame => 0,
-        Kind::Amr => 0,
-        Kind::Reserved => 0,
-        Kind::Message => 0,
+        Kind::Cid { section, .. } => u64::from(section.0),
+        _ => 0,
     }
 }
 
@@ -110,22 +80,14 @@ fn kind_section(kind: Kind) -> u64
 fn parts_words(p: Parts) -> [u64; 7]
     ensures { result ≡ parts_words (parts_as p) }
 {
-    let class = p.class;
-    let alias = p.alias;
-    let kind = p.kind;
-    let type_bit = headers::header::type_bit(class);
-    let code = kind_code(kind);
-    let number = kind_number(kind);
-    let section = kind_section(kind);
-    let bit = headers::header::bit_28(p.bit);
     [
-        type_bit as u64,
-        p.field as u64,
-        alias.0 as u64,
-        code,
-        number,
-        section,
-        bit as u64,
+        u64::from(type_bit(p.class)),
+        u64::from(p.field),
+        u64::from(p.alias.0),
+        kind_code(p.kind),
+        kind_number(p.kind),
+        kind_section(p.kind),
+        u64::from(bit_28(p.bit)),
     ]
 }
 
@@ -133,40 +95,35 @@ fn parts_words(p: Parts) -> [u64; 7]
 pub extern "C" fn lcc_read_header(header: u32, parts: &mut [u64; 7]) -> u64
     ensures { Out parts_words (read header) result parts.old parts.new }
 {
-    match headers::header::read_header(header) {
-        Read::Header(p) => {
-            *parts = parts_words(p);
-            0
-        }
-        Read::Malformed => malformed(),
-    }
+    put_out(header::read_header(header), parts, parts_words)
 }
 
 // ALIASES
+
+// The alias as one word.
+fn alias_words(a: Alias) -> [u64; 1]
+    ensures { result ≡ one a.0 }
+{
+    [u64::from(a.0)]
+}
+
+// The next state, and the alias drawn from it.
+fn next_words(n: Next) -> [u64; 2]
+    ensures { result ≡ n.state ∷ n.alias.0 ∷ [] }
+{
+    [n.state, u64::from(n.alias.0)]
+}
 
 #[unsafe(no_mangle)]
 pub extern "C" fn lcc_first_alias(id: u64, alias: &mut [u64; 1]) -> u64
     ensures { Out one (first_alias id) result alias.old alias.new }
 {
-    match headers::alias::first_alias(id) {
-        First::Alias(a) => {
-            *alias = [a.0 as u64];
-            0
-        }
-        First::BadNodeId => bad_node_id(),
-    }
+    put_out(first_alias(id), alias, alias_words)
 }
 
-// Writes the next state, and the alias drawn from it.
 #[unsafe(no_mangle)]
 pub extern "C" fn lcc_next_alias(state: u64, next: &mut [u64; 2]) -> u64
     ensures { Out next_words (next_alias state) result next.old next.new }
 {
-    match headers::alias::next_alias(state) {
-        Next::Alias { state, alias } => {
-            *next = [state, alias.0 as u64];
-            0
-        }
-        Next::Malformed => malformed(),
-    }
+    put_out(next_alias(state), next, next_words)
 }

@@ -1,6 +1,6 @@
 // For C: the table's commands over a plain pointer to its words, answers as numbers. Beside them looking (look.rt), what a
 // warm power-on can be given later (read_out.rt), the map of foreign aliases (map.rt), headers and aliases (lcc.rt), frames as text
-// (grid.rt).
+// (grid.rt). Kinds, flags and states are numbers here, as C hands over any, and data stand beside their length.
 #![tactic(auto)]
 
 pub mod grid;
@@ -9,59 +9,74 @@ pub mod look;
 pub mod map;
 pub mod read_out;
 
-ghost use Rattle.std.specs.Prelude.{◌≡◌};
+ghost use Rattle.std.specs.Prelude.{◌≡◌, [], ◌∷◌};
 ghost use Rattle.segment_rules.specs.Rules.{power_on, send, fail, deliver, tick, foreign, message, enquiry, release, link, warm_on};
 ghost use Rattle.table.specs.Words.{Fresh, late_of};
-ghost use Rattle.state.specs.Answers.{answer_as};
-ghost use Rattle.table.specs.Answers.{choice_as};
-ghost use Rattle.card_api.specs.Out.{code_of};
-ghost use Rattle.card_api.specs.Answers.{late_code, Coded, choice_word, CodedChoice, SentWords, CodedSend};
+ghost use Rattle.headers.specs.Answers.{answered};
+ghost use Rattle.card_api.specs.Out.{code_of, PutOut};
+ghost use Rattle.card_api.specs.Answers.{late_code, Coded, CodedChoice, CodedSend};
 
 use headers::frame::Frame;
-use state::{Answer, Refusal};
+use headers::refusal::Numbered;
+use table::commands;
 use table::layout::{Table, WORDS};
-use table::turns::Choice;
 
 // 0 where accepted, else the refusal's number.
-fn code(a: Answer) -> u64
-    ensures { result ≡ code_of (answer_as a) }
+fn code<T: Drop, E: Numbered>(answer: Result<T, E>) -> u64
+    ensures { result ≡ code_of (answered E.number_of (λ x. x) answer) }
 {
-    match a {
-        Answer::Accepted => 0,
-        Answer::Sent(_) => 0,
-        Answer::Refused(r) => r.number() as u64,
+    match answer {
+        Ok(_) => 0,
+        Err(refusal) => u64::from(refusal.number()),
     }
 }
 
-fn malformed() -> u64
-    ensures { result ≡ 9 }
+// Writes the words of an answer's value, none where it is a refusal, and gives its number. The buffer's type is W and not [u64; N],
+// since the check does not cover a bound on a closure that names a const parameter.
+fn put_out<T: Drop, E: Numbered, W: Drop, F: Fn(T) -> W>(
+    answer: Result<T, E>,
+    out: &mut W,
+    words: F,
+) -> u64
+    requires call { F.IsAlwaysCallable words }
+    ensures number { result ≡ code_of (answered E.number_of (λ x. x) answer) }
+    ensures put { PutOut F.Fn words answer out.old out.new }
 {
-    code(Answer::Refused(Refusal::Malformed))
+    match answer {
+        Ok(value) => {
+            *out = words(value);
+            0
+        }
+        Err(refusal) => u64::from(refusal.number()),
+    }
 }
 
 #[unsafe(no_mangle)]
 pub extern "C" fn card_new(table: &mut [u64; WORDS])
     ensures { Fresh table.new }
 {
-    table::commands::new(&mut *table);
+    commands::new(table);
 }
 
 #[unsafe(no_mangle)]
 pub extern "C" fn card_is_late(table: &[u64; WORDS]) -> u64
     ensures { result ≡ late_code (late_of table.now) }
 {
-    if table::commands::is_late(table) {
-        return 1;
-    }
-    0
+    u64::from(commands::is_late(table))
 }
 
 #[unsafe(no_mangle)]
 pub extern "C" fn card_power_on(table: &mut [u64; WORDS], index: usize, id: u64) -> u64
     ensures { Coded (power_on index id) table.old result table.new }
 {
-    let a = table::commands::power_on(&mut *table, index, id);
-    code(a)
+    code(commands::power_on(table, index, id))
+}
+
+// A frame that left: header, length, data.
+fn sent_words(f: Frame) -> [u64; 3]
+    ensures { result ≡ f.header ∷ f.len ∷ f.bytes ∷ [] }
+{
+    [u64::from(f.header), u64::from(f.len), f.bytes]
 }
 
 // Writes the frame that left, if one did: header, length, data with the first byte highest.
@@ -69,45 +84,30 @@ pub extern "C" fn card_power_on(table: &mut [u64; WORDS], index: usize, id: u64)
 pub extern "C" fn card_send(table: &mut [u64; WORDS], index: usize, sent: &mut [u64; 3]) -> u64
     ensures { CodedSend (send index) table.old result table.new sent.old sent.new }
 {
-    let a = table::commands::send(&mut *table, index);
-    write_sent(&mut *sent, a);
-    code(a)
-}
-
-fn write_sent(sent: &mut [u64; 3], a: Answer)
-    ensures { SentWords a sent.old sent.new }
-{
-    match a {
-        Answer::Accepted => {}
-        Answer::Refused(_) => {}
-        Answer::Sent(f) => {
-            *sent = [f.header as u64, f.len as u64, f.bytes];
-        }
-    }
+    let answer = commands::send(table, index);
+    put_out(answer, sent, sent_words)
 }
 
 #[unsafe(no_mangle)]
 pub extern "C" fn card_fail(table: &mut [u64; WORDS], index: usize) -> u64
     ensures { Coded (fail index) table.old result table.new }
 {
-    let a = table::commands::fail(&mut *table, index);
-    code(a)
+    code(commands::fail(table, index))
 }
 
 #[unsafe(no_mangle)]
 pub extern "C" fn card_deliver(table: &mut [u64; WORDS], index: usize) -> u64
     ensures { Coded (deliver index) table.old result table.new }
 {
-    let a = table::commands::deliver(&mut *table, index);
-    code(a)
+    code(commands::deliver(table, index))
 }
 
 #[unsafe(no_mangle)]
 pub extern "C" fn card_tick(table: &mut [u64; WORDS]) -> u64
     ensures { Coded tick table.old result table.new }
 {
-    let a = table::commands::tick(&mut *table);
-    code(a)
+    commands::tick(table);
+    0
 }
 
 #[unsafe(no_mangle)]
@@ -120,14 +120,15 @@ pub extern "C" fn card_foreign(
 ) -> u64
     ensures { Coded (foreign (record { kind = kind; header = header; len = len; bytes = bytes })) table.old result table.new }
 {
-    let f = Frame {
-        kind: kind,
-        header: header,
-        len: len,
-        bytes: bytes,
-    };
-    let a = table::commands::foreign(&mut *table, f);
-    code(a)
+    code(commands::foreign(
+        table,
+        Frame {
+            kind,
+            header,
+            len,
+            bytes,
+        },
+    ))
 }
 
 #[unsafe(no_mangle)]
@@ -140,32 +141,28 @@ pub extern "C" fn card_message(
 ) -> u64
     ensures { Coded (message index field len bytes) table.old result table.new }
 {
-    let a = table::commands::message(&mut *table, index, field, len, bytes);
-    code(a)
+    code(commands::message(table, index, field, len, bytes))
 }
 
 #[unsafe(no_mangle)]
 pub extern "C" fn card_enquiry(table: &mut [u64; WORDS], index: usize, len: u8, bytes: u64) -> u64
     ensures { Coded (enquiry index len bytes) table.old result table.new }
 {
-    let a = table::commands::enquiry(&mut *table, index, len, bytes);
-    code(a)
+    code(commands::enquiry(table, index, len, bytes))
 }
 
 #[unsafe(no_mangle)]
 pub extern "C" fn card_release(table: &mut [u64; WORDS], index: usize) -> u64
     ensures { Coded (release index) table.old result table.new }
 {
-    let a = table::commands::release(&mut *table, index);
-    code(a)
+    code(commands::release(table, index))
 }
 
 #[unsafe(no_mangle)]
 pub extern "C" fn card_link(table: &mut [u64; WORDS], index: usize, state: u8) -> u64
     ensures { Coded (link index state) table.old result table.new }
 {
-    let a = table::commands::link(&mut *table, index, state);
-    code(a)
+    code(commands::link(table, index, state))
 }
 
 // With flag 1 under the alias of a generator state that was read out; with flag 0 as a power-on, whatever the state (A.9).
@@ -179,17 +176,7 @@ pub extern "C" fn card_warm_on(
 ) -> u64
     ensures { Coded (warm_on index id flag state) table.old result table.new }
 {
-    let a = table::commands::warm_on(&mut *table, index, id, flag, state);
-    code(a)
-}
-
-fn choice_word(c: Choice) -> u64
-    ensures { result ≡ choice_word (choice_as c) }
-{
-    match c {
-        Choice::Names(index) => index as u64,
-        Choice::Nobody => Table::PLACES as u64,
-    }
+    code(commands::warm_on(table, index, id, flag, state))
 }
 
 // Who sends next (A.8): the index, 24 for none.
@@ -197,7 +184,7 @@ fn choice_word(c: Choice) -> u64
 pub extern "C" fn card_choose(table: &mut [u64; WORDS], chosen: &mut [u64; 1]) -> u64
     ensures { CodedChoice table.old result table.new chosen.new }
 {
-    let c = table::commands::choose(&mut *table);
-    *chosen = [choice_word(c)];
+    let index = commands::choose(table).unwrap_or(Table::PLACES);
+    *chosen = [index as u64];
     0
 }

@@ -5,58 +5,44 @@ ghost use Rattle.segment_rules.specs.Looks.{looks, looks_in};
 ghost use Rattle.table.specs.Answers.{seen_as};
 ghost use Rattle.table.specs.Words.{view};
 ghost use Rattle.card_api.specs.Out.{Out};
-ghost use Rattle.card_api.specs.Looks.{due_mark, due_frame, seen_words, frame_words};
+ghost use Rattle.card_api.specs.Looks.{due_frame, seen_words, frame_words};
 
+use crate::put_out;
 use headers::frame::Frame;
-use state::Due;
 use table::layout::WORDS;
-use table::look::{Found, Looked, Seen};
-
-// 1 where a frame is due.
-fn is_due(d: Due) -> u64
-    ensures { result ≡ due_mark (due_as d) }
-{
-    match d {
-        Due::Nothing => 0,
-        Due::Next(_) => 1,
-    }
-}
+use table::look::Seen;
 
 // The due frame, all 0 where none is.
-fn due_frame(d: Due) -> Frame
-    ensures { result ≡ due_frame (due_as d) }
+fn due_frame(due: Option<Frame>) -> Frame
+    ensures { result ≡ due_frame (due_as due) }
 {
-    match d {
-        Due::Nothing => Frame {
-            kind: 0,
-            header: 0,
-            len: 0,
-            bytes: 0,
-        },
-        Due::Next(f) => f,
-    }
+    due.unwrap_or(Frame {
+        kind: 0,
+        header: 0,
+        len: 0,
+        bytes: 0,
+    })
 }
 
-fn write_seen(seen: &mut [u64; 12], s: Seen)
-    ensures { seen.new ≡ seen_words (seen_as s) }
+#[tactic(auto, unfolding(crate::specs::Looks::seen_words))]
+fn seen_words(s: Seen) -> [u64; 12]
+    ensures { result ≡ seen_words (seen_as s) }
 {
-    let a = s.alias;
-    let d = s.due;
-    let f = due_frame(d);
-    *seen = [
-        s.state as u64,
+    let due = due_frame(s.due);
+    [
+        u64::from(s.state),
         s.id,
-        a.0 as u64,
-        is_due(d),
-        f.header as u64,
-        f.len as u64,
-        f.bytes,
+        u64::from(s.alias.0),
+        u64::from(s.due.is_some()),
+        u64::from(due.header),
+        u64::from(due.len),
+        due.bytes,
         s.count,
         0,
         0,
         0,
         0,
-    ];
+    ]
 }
 
 // State, Node ID, alias; whether a frame is due, its header, length and data; how many frames the inbox has; four words 0.
@@ -64,16 +50,23 @@ fn write_seen(seen: &mut [u64; 12], s: Seen)
 pub extern "C" fn card_look(table: &[u64; WORDS], index: usize, seen: &mut [u64; 12]) -> u64
     ensures { Out seen_words (looks (view table.now) index) result seen.old seen.new }
 {
-    match table::look::look(table, index) {
-        Looked::Seen(s) => {
-            write_seen(&mut *seen, s);
-            0
-        }
-        Looked::Refused(r) => r.number() as u64,
-    }
+    let answer = table::look::look(table, index);
+    put_out(answer, seen, seen_words)
 }
 
-// A frame of the inbox, 0 for the oldest: kind, header, length, data.
+// Kind, header, length, data.
+fn frame_words(f: Frame) -> [u64; 4]
+    ensures { result ≡ frame_words f }
+{
+    [
+        u64::from(f.kind),
+        u64::from(f.header),
+        u64::from(f.len),
+        f.bytes,
+    ]
+}
+
+// A frame of the inbox, 0 for the oldest.
 #[unsafe(no_mangle)]
 pub extern "C" fn card_inbox(
     table: &[u64; WORDS],
@@ -83,11 +76,6 @@ pub extern "C" fn card_inbox(
 ) -> u64
     ensures { Out frame_words (looks_in (view table.now) index place) result frame.old frame.new }
 {
-    match table::look::inbox(table, index, place) {
-        Found::Frame(f) => {
-            *frame = [f.kind as u64, f.header as u64, f.len as u64, f.bytes];
-            0
-        }
-        Found::Refused(r) => r.number() as u64,
-    }
+    let answer = table::look::inbox(table, index, place);
+    put_out(answer, frame, frame_words)
 }

@@ -1,29 +1,22 @@
 // Read-out for C (A.9): the generator's state, and 1 where the first alias is past. A refusal writes neither.
 ghost use Rattle.std.specs.Prelude.{◌≡◌};
-ghost use Rattle.headers.specs.Answers.{bit_of};
-ghost use Rattle.card_api.specs.ReadOuts.{CodedReadOut};
+ghost use Rattle.card_api.specs.ReadOuts.{CodedReadOut, generator_words};
 
-use node::read_out::ReadOut;
+use crate::put_out;
+use node::Generator;
 use table::layout::WORDS;
 
-fn bit(b: bool) -> u64
-    ensures { result ≡ bit_of b }
+// The generator's state, and 1 where the first alias is past.
+fn generator_words(g: Generator) -> [u64; 2]
+    ensures { result ≡ generator_words g }
 {
-    if b {
-        return 1;
-    }
-    0
+    [g.state, u64::from(g.past)]
 }
 
 #[unsafe(no_mangle)]
 pub extern "C" fn card_read_out(table: &[u64; WORDS], index: usize, out: &mut [u64; 2]) -> u64
     ensures { CodedReadOut index table.now result out.old out.new }
 {
-    match table::commands::read_out(table, index) {
-        ReadOut::Generator(g) => {
-            *out = [g.state, bit(g.past)];
-            0
-        }
-        ReadOut::Refused(r) => r.number() as u64,
-    }
+    let answer = table::commands::read_out(table, index);
+    put_out(answer, out, generator_words)
 }

@@ -1,5 +1,5 @@
 -- What a kept list keeps of every two places, for one alias: the argument of Bus, carried through the list. `Single` says what follows.
-use Rattle.std.specs.Prelude.{◌≡◌, Bool, not, cond, ℕ, ◌+◌, ◌*◌, ◌<◌, eqb, length}
+use Rattle.std.specs.Prelude.{◌≡◌, Bool, not, cond, ℕ, ◌+◌, ◌*◌, ◌<◌, eqb, length, Option, Some, None}
 use Rattle.std.proofs.Math.Path.{refl}
 use Rattle.std.proofs.Common.{sym, ap, subst, ◌∙◌, inl, inr, arith, length-append}
 use Rattle.std.proofs.Math.Bool.{true, false}
@@ -332,7 +332,7 @@ matched-step S G h c k = go (answer S c)
 in-time : (i o a : ℕ) (p : Place) (g : Ages) → old_at i o p.node g ≡ false → InTime i o a (sight_of i o a p g)
 in-time i o a p g e =
     let h = test-limit i o p.node g e in
-    record { box = h.inbox; out = subst (λ (t : Timed). OutTo o t (g.waiting a)) (timed-stand p.node a) (h.waiting a) }
+    record { box = h.inbox; out = subst (λ (t : Option Timed). OutTo o t (g.waiting a)) (timed-stand p.node a) (h.waiting a) }
 
 pub sound-start : AllSound start
 sound-start k = off-sound

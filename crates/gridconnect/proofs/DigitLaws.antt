@@ -1,5 +1,5 @@
 -- Laws of digits in either case: their values, the number that they stand for one by one, and how great it can be.
-use Rattle.std.specs.Prelude.{◌≡◌, refl, ℕ, zero, suc, ◌+◌, ◌-◌, ◌*◌, ◌%◌, ◌^◌, ◌≤◌, ◌<◌, true, false, ◌&&◌, List, [], ◌∷◌, ◌++◌, ltb, length, get_or, take}
+use Rattle.std.specs.Prelude.{◌≡◌, refl, ℕ, zero, suc, ◌+◌, ◌-◌, ◌*◌, ◌%◌, ◌^◌, ◌≤◌, ◌<◌, true, false, ◌&&◌, List, [], ◌∷◌, ◌++◌, ltb, length, get_or, take, Option, Some}
 use Rattle.std.proofs.Math.Path.{ap}
 use Rattle.std.proofs.Common.{sym, subst, ◌∙◌, arith, zero-mul, mul-zero, mul-suc, pow-suc, lt_of_lt_of_le, add-one, lt-ltb, le-ltb, le-leb, pow-add, shl_exact, take-suc, take_all}
 use Rattle.std.proofs.Math.Bool.{and-true, and-false, and_assoc}
@@ -9,7 +9,6 @@ use Rattle.std.proofs.Math.Seq.{split_at}
 use Rattle.text.specs.Table.{table_at}
 use Rattle.gridconnect.specs.Rules.{value, are_digits, number_from, number}
 use Rattle.gridconnect.specs.Answers.{Stands}
-use Rattle.gridconnect.specs.declared.digits.Parsed as P
 use Rattle.gridconnect.specs.Digits.{from_zero, value_table, SoFar}
 
 pub value-from : (b : ℕ) → 48 ≤ b → b ≤ 102 → get_or value_table (b - 48) 0 ≡ value b
@@ -73,15 +72,15 @@ one_more ds i h p e q =
       below = below_more ds i h p.below q;
     }
 
-pub all_read : (ds : List ℕ) (i : ℕ) {n : ℕ} → i ≡ length ds → SoFar ds n i → Stands (P.TheVariants.Number n) ds
+pub all_read : (ds : List ℕ) (i : ℕ) {n : ℕ} → i ≡ length ds → SoFar ds n i → Stands (Some n) ds
 all_read ds i {n} e p = (rw whole at p.are, (p.is ∙ ap number whole, subst (λ (k : ℕ). n < 16 ^ k) e p.below))
   where
     whole : take i ds ≡ ds
     whole = take_all i ds (omega (arith, e))
 
 -- What a match on the answer tells.
-pub stands-as : (ds : List ℕ) {r s : P.Parsed} → r ≡ s → Stands r ds → Stands s ds
-stands-as ds e p = subst (λ (r : P.Parsed). Stands r ds) e p
+pub stands-as : (ds : List ℕ) {r s : Option ℕ} → r ≡ s → Stands r ds → Stands s ds
+stands-as ds e p = subst (λ (r : Option ℕ). Stands r ds) e p
 
 -- With fewer than 16 of them, one more fits into 64 bits.
 pub below-60-bits : {ds : List ℕ} {n i : ℕ} → i < 16 → SoFar ds n i → n < 2 ^ 60

@@ -1,5 +1,5 @@
 -- Laws of the reader: what it answers by the tests that it makes, and what is fixed in a text.
-use Rattle.std.specs.Prelude.{◌≡◌, ℕ, ◌+◌, ◌-◌, ◌*◌, ◌/◌, ◌%◌, ◌^◌, ◌≤◌, ◌<◌, true, false, List, eqb, length, take, drop, get_or}
+use Rattle.std.specs.Prelude.{◌≡◌, ℕ, ◌+◌, ◌-◌, ◌*◌, ◌/◌, ◌%◌, ◌^◌, ◌≤◌, ◌<◌, true, false, List, eqb, length, take, drop, get_or, Option, Some}
 use Rattle.std.proofs.Math.Path.{refl}
 use Rattle.std.proofs.Common.{ap, sym, subst, ◌∙◌, arith, length-take, length-drop}
 use Rattle.std.proofs.Math.Bool.{and-false, or-true}
@@ -9,7 +9,6 @@ use Rattle.headers.proofs.Laws.{both}
 use Rattle.gridconnect.specs.Rules.{colon, letter_x, letter_n, semicolon, are_digits, number, header_in, data_in, framed, frame_in, read}
 use Rattle.gridconnect.specs.Answers.{Stands}
 use Rattle.gridconnect.proofs.DigitLaws.{stands-as}
-use Rattle.gridconnect.specs.declared.digits.Parsed as P
 
 module _ (t : List ℕ) where
   -- What is fixed in a text: how long it can be, and the four bytes that are no digits.
@@ -81,12 +80,12 @@ module _ (t : List ℕ) where
   abbrev pub cut : List ℕ
   cut = take (11 + (length t - 12) - 11) (drop 11 t)
 
-  pub data-as : {r s : P.Parsed} → r ≡ s → Stands r cut → Stands s (data_in t)
+  pub data-as : {r s : Option ℕ} → r ≡ s → Stands r cut → Stands s (data_in t)
   data-as {s = s} told p =
       let e : 11 + (length t - 12) - 11 ≡ length t - 12 = omega arith in
       subst (λ (k : ℕ). Stands s (take k (drop 11 t))) e (stands-as cut told p)
 
-  pub data-number : framed t ≡ true → {r : P.Parsed} {n : ℕ} → r ≡ P.TheVariants.Number n → Stands r cut
+  pub data-number : framed t ≡ true → {r : Option ℕ} {n : ℕ} → r ≡ Some n → Stands r cut
       → (are_digits (data_in t) ≡ true) × ((n ≡ number (data_in t)) × (n < 16 ^ (length t - 12)))
   data-number e {n = n} told p =
       let s = data-as told p in

@@ -2,42 +2,37 @@
 ghost use Rattle.std.specs.Prelude.{◌≡◌, ◌≤◌, length};
 ghost use Rattle.gridconnect.specs.Rules.{value as value_of};
 ghost use Rattle.gridconnect.specs.Answers.{Stands};
-ghost use Rattle.gridconnect.specs.Digits.{value_table};
 
-#[derive(Clone, Copy)]
-pub enum Parsed {
-    Number(u64),
-    NotDigits,
-}
+// The values of the bytes from `0` to `f`: 0 to 9, seven bytes that are no digits, A to F, 26 more, a to f.
+static VALUES: [u8; 55] = *b"\x00\x01\x02\x03\x04\x05\x06\x07\x08\x09\
+                            \x10\x10\x10\x10\x10\x10\x10\
+                            \x0a\x0b\x0c\x0d\x0e\x0f\
+                            \x10\x10\x10\x10\x10\x10\x10\x10\x10\x10\x10\x10\x10\
+                            \x10\x10\x10\x10\x10\x10\x10\x10\x10\x10\x10\x10\x10\
+                            \x0a\x0b\x0c\x0d\x0e\x0f";
 
-// The value of a byte as a digit, from a table of those from `0` to `f`; 16 where it is none.
-fn value(values: &[u8; 55], b: u8) -> u8
-    requires { values.now ≡ value_table }
+// The value of a byte as a digit; 16 where it is none, as the rules' `value` has it.
+fn value(b: u8) -> u8
     ensures { result ≡ value_of b }
 {
-    if b < b'0' {
-        return 16;
+    match b {
+        b'0'..=b'f' => VALUES[(b - b'0') as usize],
+        _ => 16,
     }
-    if b'f' < b {
-        return 16;
-    }
-    values[(b - b'0') as usize]
 }
 
-// The number that up to 16 digits stand for, the highest first, by that table.
-pub(crate) fn number(digits: &[u8], values: &[u8; 55]) -> Parsed
-    requires { (length digits.now ≤ 16) × (values.now ≡ value_table) }
+// The number that up to 16 digits stand for, the highest first. `from_str_radix` reads a `&str` and takes a sign; a text is bytes.
+pub(crate) fn number(digits: &[u8]) -> Option<u64>
+    requires { length digits.now ≤ 16 }
     ensures { Stands result digits.now }
 {
-    let mut n = 0u64;
-    let mut i = 0;
-    while i < digits.len() {
-        let d = value(values, digits[i]);
+    let mut n = 0;
+    for &b in digits {
+        let d = value(b);
         if 15 < d {
-            return Parsed::NotDigits;
+            return None;
         }
         n = 16 * n + d as u64;
-        i += 1;
     }
-    Parsed::Number(n)
+    Some(n)
 }

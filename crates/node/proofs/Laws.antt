@@ -1,5 +1,5 @@
 -- Laws of one node: what it has due, and how each event changes what it does on the bus.
-use Rattle.std.specs.Prelude.{◌≡◌, refl, ◌≢◌, ◌⊎◌, Bool, true, false, cond, ℕ, ◌+◌, ◌*◌, ◌/◌, ◌%◌, ◌^◌, ◌<◌, ◌≤◌, ltb}
+use Rattle.std.specs.Prelude.{◌≡◌, refl, ◌≢◌, ◌⊎◌, Bool, true, false, cond, ℕ, ◌+◌, ◌*◌, ◌/◌, ◌%◌, ◌^◌, ◌<◌, ◌≤◌, ltb, Option, Some, None}
 use Rattle.std.proofs.Common.{sym, ◌∙◌, inl, inr, true≢false, arith, lt-ltb}
 use Rattle.std.proofs.Math.Path.{ap, subst}
 use Rattle.std.proofs.lemmas.Bool.{false≢true}
@@ -16,9 +16,9 @@ use Rattle.state.specs.declared.Phase.{Phase}
 use Rattle.state.specs.declared.Phase.TheVariants.{Off, Testing, Reserved, Permitted, Leaving, Resting, Silent}
 use Rattle.state.specs.declared.Waiting.{Waiting}
 use Rattle.state.specs.declared.Error.{Error}
-use Rattle.state.specs.declared.Error.TheVariants.{NoReport, Report0, Report1, Report2, Report3}
+use Rattle.state.specs.declared.Error.TheVariants.{Report0, Report1, Report2, Report3}
 use Rattle.state.specs.declared.Host.{Host}
-use Rattle.state.specs.declared.Host.TheVariants.{Empty, Message, Enquiry}
+use Rattle.state.specs.declared.Host.TheVariants.{Message, Enquiry}
 use Rattle.node.specs.Laws.{is_bare, DueFrame}
 
 pub cid-field : (id sent : ℕ) → (0x1000 ≤ cid_field id sent) × (cid_field id sent < 2 ^ 15)
@@ -69,17 +69,17 @@ module _ (n : Node) (h : Sound n) where
   unfolding error_frame
   report-fits k h e u = used-fits 0 (0x0710 + k) _ _ (omega arith) (omega arith) (omega arith) e u
 
-  error-fits : (e : Error) → uses n.phase ≡ true → DueFits (error_due e n.own.id n.alias.0)
-  error-fits NoReport u = tt
-  error-fits Report0 u = report-fits 0 (omega arith) refl u
-  error-fits Report1 u = report-fits 1 (omega arith) refl u
-  error-fits Report2 u = report-fits 2 (omega arith) refl u
-  error-fits Report3 u = report-fits 3 (omega arith) refl u
+  error-fits : (e : Option Error) → uses n.phase ≡ true → DueFits (error_due e n.own.id n.alias.0)
+  error-fits None u = tt
+  error-fits (Some Report0) u = report-fits 0 (omega arith) refl u
+  error-fits (Some Report1) u = report-fits 1 (omega arith) refl u
+  error-fits (Some Report2) u = report-fits 2 (omega arith) refl u
+  error-fits (Some Report3) u = report-fits 3 (omega arith) refl u
 
-  host-fits : (x : Host) → HostFits x → uses n.phase ≡ true → DueFits (host_due x n.alias.0)
-  host-fits Empty y u = tt
-  host-fits (Message f l b) y u = used-fits 1 f l b (omega arith) y.0 y.1 refl u
-  host-fits (Enquiry l b) y u = used-fits 0 0x0702 l b (omega arith) (omega arith) y refl u
+  host-fits : (x : Option Host) → HostFits x → uses n.phase ≡ true → DueFits (host_due x n.alias.0)
+  host-fits None y u = tt
+  host-fits (Some (Message f l b)) y u = used-fits 1 f l b (omega arith) y.0 y.1 refl u
+  host-fits (Some (Enquiry l b)) y u = used-fits 0 0x0702 l b (omega arith) (omega arith) y refl u
 
   pub due-frame : (wait : ℕ) (f : Frame) → due_of wait n ≡ next f → DueFrame n f
   unfolding due_of first_waiting cid_frame rid_frame amd_frame amr_frame report_frame

@@ -1,5 +1,5 @@
 -- Every refusal of a node's event has a number of two digits at most.
-use Rattle.std.specs.Prelude.{ℕ, ◌+◌, ◌%◌, ◌^◌, ◌<◌, Bool, not, cond, ◌||◌, leb}
+use Rattle.std.specs.Prelude.{ℕ, ◌+◌, ◌%◌, ◌^◌, ◌<◌, Bool, not, cond, ◌||◌, leb, Some}
 use Rattle.std.proofs.Math.Bool.{true, false}
 use native.Mathlib.Omega.{arith}
 use Rattle.std.proofs.Math.Dec.{ltb, eqb}
@@ -49,7 +49,7 @@ module _ (w : ℕ) (n : Node) where
       later = refuse (host_waits n.waiting.host) 8 (accepted done)
 
       go : (off bad : Bool) → TwoDigits (cond off (resulting (refused 2) n n) (cond bad (resulting (refused 9) n n)
-          (resulting (refuse (not (is_permitted n.phase)) 7 later) n (waits n (with_host n.waiting h))))).answer
+          (resulting (refuse (not (is_permitted n.phase)) 7 later) n (waits n (with_host n.waiting (Some h)))))).answer
       go true bad = omega arith
       go false true = omega arith
       go false false =

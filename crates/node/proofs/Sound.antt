@@ -1,5 +1,5 @@
 -- What is sound of a node: the node that is Off is, and every event keeps it, refused ones too.
-use Rattle.std.specs.Prelude.{◌≡◌, Bool, ◌||◌, ℕ, ◌+◌, ◌%◌, ◌^◌, ◌<◌, ◌≤◌, leb}
+use Rattle.std.specs.Prelude.{◌≡◌, Bool, ◌||◌, ℕ, ◌+◌, ◌%◌, ◌^◌, ◌<◌, ◌≤◌, leb, Some}
 use Rattle.std.proofs.Math.Path.{refl}
 use Rattle.std.proofs.Common.{sym, ap, true≢false, arith}
 use Rattle.std.proofs.Math.Bool.{true, false, not}
@@ -258,9 +258,9 @@ module _ (n : Node) (h : Sound n) where
   release-sound =
       release-given Sound n h (λ e. moved-sound n h _ (h.named (ap is_off e)) tt)
 
-  ordered-sound : (bad : Bool) (x : Host) → (bad ≡ false → HostFits x) → Sound (ordered n bad x).node
+  ordered-sound : (bad : Bool) (x : Host) → (bad ≡ false → HostFits (Some x)) → Sound (ordered n bad x).node
   ordered-sound bad x y =
-      let w = with_host n.waiting x in
+      let w = with_host n.waiting (Some x) in
       ordered-given Sound n h bad x (λ e e'. waits-sound n h w (any-fits e' w) (y e))
 
   message-sound : (field len bytes : ℕ) → Sound (on_message n field len bytes).node

@@ -1,13 +1,13 @@
 -- What a tick changes of a node, and events that leave it as it is: a tick that does not count, a frame of which nothing
 -- concerns it.
-use Rattle.std.specs.Prelude.{◌≡◌, refl, Bool, true, false, cond, ℕ, ◌+◌, ltb, eqb}
+use Rattle.std.specs.Prelude.{◌≡◌, refl, Bool, true, false, cond, ℕ, ◌+◌, ltb, eqb, Option, Some, None}
 use Rattle.std.proofs.Common.{sym, ◌∙◌, true≢false}
 use Rattle.std.proofs.lemmas.Bool.{false≢true}
 use Rattle.node.specs.Rules.{alias_in, kind_in, Kind, cid, rid, amd, ame, amr, error_report, reserved, message_kind, counted, tick_of, tick_at, is_permitted, is_cid, same_alias, addressed, addressed_at, other_alias, received}
 use Rattle.state.specs.Concerns.{counts, kind_concern, concern, is_nothing}
 use Rattle.headers.specs.declared.frame.Frame.{Frame}
 use Rattle.state.specs.declared.Concern.{Concern}
-use Rattle.state.specs.declared.Concern.TheVariants.{Nothing, SameAlias, Ame, Amd}
+use Rattle.state.specs.declared.Concern.TheVariants.{SameAlias}
 use Rattle.node.specs.declared.Node.{Node}
 use Rattle.state.specs.declared.Phase.{Phase}
 use Rattle.state.specs.declared.Phase.TheVariants.{Off, Testing, Reserved, Permitted, Leaving, Resting, Silent}
@@ -68,7 +68,7 @@ taken-received n f = go (eqb f.kind 0) (eqb (alias_in f.header) n.alias.0) (is_p
     other message_kind = refl
 
     go : (control same permitted : Bool) (k : Kind)
-        → taken_by (cond control (cond same (SameAlias (is_cid k)) (cond permitted (kind_concern k) Nothing)) Nothing) n f
+        → taken_by (cond control (cond same (Some (SameAlias (is_cid k))) (cond permitted (kind_concern k) None)) None) n f
         ≡ cond control (cond same (same_alias n (is_cid k)) (cond permitted (addressed_at k n f) n)) n
     go true true permitted k = refl
     go true false true k = other k
@@ -78,8 +78,6 @@ taken-received n f = go (eqb f.kind 0) (eqb (alias_in f.header) n.alias.0) (is_p
 pub frame-still : (n : Node) (f : Frame) → is_nothing (concern n.alias.0 n.phase f) ≡ true → received n f ≡ n
 frame-still n f e = sym (taken-received n f) ∙ go (concern n.alias.0 n.phase f) e
   where
-    go : (c : Concern) → is_nothing c ≡ true → taken_by c n f ≡ n
-    go Nothing e = refl
-    go (SameAlias is_cid) e = absurd (false≢true e)
-    go Ame e = absurd (false≢true e)
-    go Amd e = absurd (false≢true e)
+    go : (c : Option Concern) → is_nothing c ≡ true → taken_by c n f ≡ n
+    go None e = refl
+    go (Some c) e = absurd (false≢true e)

@@ -1,4 +1,5 @@
 -- Whether a node has a due frame: in Testing by the ticks, in Reserved and Permitted by what waits.
+use Rattle.std.specs.Prelude.{Option, Some, None}
 use mathlib.Core.Path.{◌≡◌, refl, sym, ap, ◌∙◌}
 use mathlib.Core.Bool.{Bool, true, false, not, cond, ◌||◌}
 use Prim.Native.Nat.{ℕ}
@@ -10,26 +11,26 @@ use Rattle.headers.specs.declared.frame.Frame.{Frame}
 use Rattle.state.specs.declared.Phase.{Phase}
 use Rattle.state.specs.declared.Phase.TheVariants.{Testing, Reserved}
 use Rattle.state.specs.declared.Error.{Error}
-use Rattle.state.specs.declared.Error.TheVariants.{NoReport, Report0, Report1, Report2, Report3}
+use Rattle.state.specs.declared.Error.TheVariants.{Report0, Report1, Report2, Report3}
 use Rattle.state.specs.declared.Host.{Host}
-use Rattle.state.specs.declared.Host.TheVariants.{Empty, Message, Enquiry}
+use Rattle.state.specs.declared.Host.TheVariants.{Message, Enquiry}
 
-host-due : (h : Host) (a : ℕ) → is_due (host_due h a) ≡ host_waits h
-host-due Empty a = refl
-host-due (Message field len bytes) a = refl
-host-due (Enquiry len bytes) a = refl
+host-due : (h : Option Host) (a : ℕ) → is_due (host_due h a) ≡ host_waits h
+host-due None a = refl
+host-due (Some (Message field len bytes)) a = refl
+host-due (Some (Enquiry len bytes)) a = refl
 
-error-due : (e : Error) (id a : ℕ) (h : Host) → is_due (cond (error_waits e) (error_due e id a) (host_due h a)) ≡ (error_waits e || host_waits h)
-error-due NoReport id a h = host-due h a
-error-due Report0 id a h = refl
-error-due Report1 id a h = refl
-error-due Report2 id a h = refl
-error-due Report3 id a h = refl
+error-due : (e : Option Error) (id a : ℕ) (h : Option Host) → is_due (cond (error_waits e) (error_due e id a) (host_due h a)) ≡ (error_waits e || host_waits h)
+error-due None id a h = host-due h a
+error-due (Some Report0) id a h = refl
+error-due (Some Report1) id a h = refl
+error-due (Some Report2) id a h = refl
+error-due (Some Report3) id a h = refl
 
-pub waiting-due : (n : Node)
+pub waiting_due : (n : Node)
     → is_due (first_waiting n) ≡ (n.waiting.reply || (n.waiting.amd || (n.waiting.report || (error_waits n.waiting.error || host_waits n.waiting.host))))
 unfolding first_waiting
-waiting-due n =
+waiting_due n =
     let a = n.alias.0 in
     let w = n.waiting in
     first w.reply (rid_frame a) _ _

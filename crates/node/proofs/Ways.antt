@@ -1,6 +1,6 @@
 -- One walk through the events: what holds of a node after each way in which it changes, power-on aside, holds after every event but
 -- power-on.
-use Rattle.std.specs.Prelude.{◌≡◌, Bool, not, ◌||◌, ℕ, ◌^◌, leb}
+use Rattle.std.specs.Prelude.{◌≡◌, Bool, not, ◌||◌, ℕ, ◌^◌, leb, Option, Some, None}
 use Rattle.std.proofs.Math.Path.{refl, subst}
 use Rattle.std.proofs.Common.{ap}
 use Rattle.std.proofs.Math.Dec.{ltb, eqb}
@@ -12,7 +12,7 @@ use Rattle.headers.specs.declared.frame.Frame.{Frame}
 use Rattle.node.specs.declared.Node.{Node}
 use Rattle.state.specs.Concerns.{concern}
 use Rattle.state.specs.declared.Concern.{Concern}
-use Rattle.state.specs.declared.Concern.TheVariants.{Nothing, SameAlias, Ame, Amd}
+use Rattle.state.specs.declared.Concern.TheVariants.{SameAlias, Ame, Amd}
 use Rattle.state.specs.declared.Link.{Link}
 use Rattle.state.specs.declared.Reason.TheVariants.{Collision, Release}
 use Rattle.state.specs.declared.Phase.{Phase}
@@ -88,11 +88,11 @@ module _ (n : Node) (Q : Node → Type 0) (y : Ways n Q) where
   unfolding addressed
   hearing f = subst Q (taken-received n f) (go (concern n.alias.0 n.phase f))
     where
-      go : (c : Concern) → Q (taken_by c n f)
-      go Nothing = y.itself
-      go (SameAlias is_cid) = same-alias is_cid
-      go Ame = either Q (eqb f.len 0 || is_own n.own.id f) _ _ (λ d. y.by-waits _) (λ d. y.itself)
-      go Amd = either Q (is_own n.own.id f) _ _ (λ d. y.by-waits _) (λ d. y.itself)
+      go : (c : Option Concern) → Q (taken_by c n f)
+      go None = y.itself
+      go (Some (SameAlias is_cid)) = same-alias is_cid
+      go (Some Ame) = either Q (eqb f.len 0 || is_own n.own.id f) _ _ (λ d. y.by-waits _) (λ d. y.itself)
+      go (Some Amd) = either Q (is_own n.own.id f) _ _ (λ d. y.by-waits _) (λ d. y.itself)
 
   pub messaging : (f l b : ℕ) → Q (on_message n f l b).node
   unfolding on_message

@@ -3,142 +3,98 @@ ghost use Rattle.std.specs.Prelude.{◌≡◌};
 ghost use Rattle.node.specs.Rules.{off_node, fresh, moved, counted, waits, linked, restart};
 
 use crate::{Generator, Node, Own};
-use headers::alias::Alias;
+use headers::alias::{self, Alias};
 use state::{Link, Phase, Waiting};
 
 impl Node {
     // The node before its first power-on.
+    #[tactic(auto, unfolding(crate::specs::Rules::off_node))]
     pub fn off() -> Node
         ensures { result ≡ off_node }
     {
-        let o = Own {
-            id: 0,
-            link: Link::ErrorActive,
-        };
-        let g = Generator {
-            state: 0,
-            past: false,
-        };
-        let w = Waiting::none();
         Node {
-            own: o,
+            own: Own {
+                id: 0,
+                link: Link::ErrorActive,
+            },
             alias: Alias(0),
-            generator: g,
+            generator: Generator {
+                state: 0,
+                past: false,
+            },
             phase: Phase::Off,
-            waiting: w,
+            waiting: Waiting::none(),
         }
     }
 
     // The node at power-on, cold or warm.
+    #[tactic(auto, unfolding(crate::specs::Rules::fresh))]
     pub(crate) fn fresh(id: u64, alias: Alias, generator: Generator) -> Node
         ensures { result ≡ fresh id alias generator }
     {
-        let o = Own {
-            id: id,
-            link: Link::ErrorActive,
-        };
-        let w = Waiting::none();
         Node {
-            own: o,
-            alias: alias,
-            generator: generator,
+            own: Own {
+                id,
+                link: Link::ErrorActive,
+            },
+            alias,
+            generator,
             phase: Phase::Testing(0, 0),
-            waiting: w,
+            waiting: Waiting::none(),
         }
     }
 
     // In another state, nothing waiting.
-    pub(crate) fn moved(self, p: Phase) -> Node
-        ensures { result ≡ moved self p }
+    #[tactic(auto, unfolding(crate::specs::Rules::moved))]
+    pub(crate) fn moved(self, phase: Phase) -> Node
+        ensures { result ≡ moved self phase }
     {
-        let o = self.own;
-        let a = self.alias;
-        let g = self.generator;
-        let w = Waiting::none();
         Node {
-            own: o,
-            alias: a,
-            generator: g,
-            phase: p,
-            waiting: w,
+            phase,
+            waiting: Waiting::none(),
+            ..self
         }
     }
 
     // With another count of CIDs and ticks, in the same state.
-    pub(crate) fn counted(self, p: Phase) -> Node
-        ensures { result ≡ counted self p }
+    #[tactic(auto, unfolding(crate::specs::Rules::counted))]
+    pub(crate) fn counted(self, phase: Phase) -> Node
+        ensures { result ≡ counted self phase }
     {
-        let o = self.own;
-        let a = self.alias;
-        let g = self.generator;
-        let w = self.waiting;
-        Node {
-            own: o,
-            alias: a,
-            generator: g,
-            phase: p,
-            waiting: w,
-        }
+        Node { phase, ..self }
     }
 
     // With something else waiting.
-    pub(crate) fn waits(self, w: Waiting) -> Node
-        ensures { result ≡ waits self w }
+    #[tactic(auto, unfolding(crate::specs::Rules::waits))]
+    pub(crate) fn waits(self, waiting: Waiting) -> Node
+        ensures { result ≡ waits self waiting }
     {
-        let o = self.own;
-        let a = self.alias;
-        let g = self.generator;
-        let p = self.phase;
-        Node {
-            own: o,
-            alias: a,
-            generator: g,
-            phase: p,
-            waiting: w,
-        }
+        Node { waiting, ..self }
     }
 
     // With another link state.
-    pub(crate) fn linked(self, l: Link) -> Node
-        ensures { result ≡ linked self l }
+    #[tactic(auto, unfolding(crate::specs::Rules::linked))]
+    pub(crate) fn linked(self, link: Link) -> Node
+        ensures { result ≡ linked self link }
     {
-        let before = self.own;
-        let o = Own {
-            id: before.id,
-            link: l,
-        };
-        let a = self.alias;
-        let g = self.generator;
-        let p = self.phase;
-        let w = self.waiting;
         Node {
-            own: o,
-            alias: a,
-            generator: g,
-            phase: p,
-            waiting: w,
+            own: Own { link, ..self.own },
+            ..self
         }
     }
 
     // Testing the next alias.
+    #[tactic(auto, unfolding(crate::specs::Rules::restart))]
     pub(crate) fn restarted(self) -> Node
         ensures { result ≡ restart self }
     {
-        let before = self.generator;
-        let x = headers::alias::step_from(before.state);
-        let a = headers::alias::drawn_from(x);
-        let g = Generator {
-            state: x,
-            past: true,
-        };
-        let own = self.own;
-        let w = Waiting::none();
+        let state = alias::step_from(self.generator.state);
         Node {
-            own: own,
-            alias: a,
-            generator: g,
+            alias: alias::drawn_from(state),
+            generator: Generator { state, past: true },
             phase: Phase::Testing(0, 0),
-            waiting: w,
+            waiting: Waiting::none(),
+            ..self
         }
     }
 }

@@ -7,39 +7,27 @@ use state::Phase;
 
 impl Node {
     // Of a Permitted node.
+    #[tactic(auto, using(crate::proofs::Waits::waiting_due))]
     fn has_waiting(self) -> bool
         ensures { result ≡ is_due (first_waiting self) }
     {
-        let w = self.waiting;
-        if w.reply {
-            return true;
-        }
-        if w.amd {
-            return true;
-        }
-        if w.report {
-            return true;
-        }
-        let e = w.error;
-        if e.is_waiting() {
-            return true;
-        }
-        let h = w.host;
-        h.is_waiting()
+        let waiting = self.waiting;
+        waiting.reply
+            || waiting.amd
+            || waiting.report
+            || waiting.error.is_some()
+            || waiting.host.is_some()
     }
 
+    #[tactic(auto, unfolding(crate::specs::Rules::due_of))]
     pub fn has_due(self) -> bool
         ensures { result ≡ is_due (due_of wait self) }
     {
-        let p = self.phase;
-        match p {
-            Phase::Testing(_, _) => !p.counts(),
-            Phase::Reserved => true,
+        match self.phase {
+            Phase::Testing(..) => !self.phase.counts(),
+            Phase::Reserved | Phase::Leaving(_) => true,
             Phase::Permitted => self.has_waiting(),
-            Phase::Leaving(_) => true,
-            Phase::Off => false,
-            Phase::Resting => false,
-            Phase::Silent => false,
+            Phase::Off | Phase::Resting | Phase::Silent => false,
         }
     }
 }

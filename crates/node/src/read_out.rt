@@ -4,23 +4,16 @@ ghost use Rattle.node.specs.Rules.{read_out_of};
 ghost use Rattle.node.specs.Answers.{read_out_as};
 
 use crate::{Generator, Node};
-use state::Refusal;
-
-#[derive(Clone, Copy)]
-pub enum ReadOut {
-    Generator(Generator),
-    Refused(Refusal),
-}
+use headers::refusal::Refusal;
 
 impl Node {
-    pub fn read_out(self) -> ReadOut
+    #[tactic(auto, unfolding(crate::specs::Rules::read_out_of))]
+    pub fn read_out(self) -> Result<Generator, Refusal>
         ensures { read_out_as result ≡ read_out_of self }
     {
-        let p = self.phase;
-        if p.is_off() {
-            return ReadOut::Refused(Refusal::Off);
+        if self.phase.is_off() {
+            return Err(Refusal::Off);
         }
-        let g = self.generator;
-        ReadOut::Generator(g)
+        Ok(self.generator)
     }
 }

@@ -7,15 +7,12 @@ use headers::alias::Alias;
 use state::Timed;
 
 impl Node {
-    pub fn timed_for(self, alias: Alias) -> Timed
+    pub fn timed_for(self, alias: Alias) -> Option<Timed>
         ensures { result ≡ timed_for self alias.0 }
     {
-        let a = self.alias;
-        if a.same(alias) {
-            let p = self.phase;
-            let w = self.waiting;
-            return p.timed(w.reply);
+        if self.alias == alias {
+            return self.phase.timed(self.waiting.reply);
         }
-        Timed::Untimed
+        None
     }
 }

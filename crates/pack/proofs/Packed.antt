@@ -1,4 +1,6 @@
 -- What was packed comes back.
+use mir.Val.{bool_byte}
+use Rattle.std.specs.Prelude.{Some}
 use mathlib.Core.Path.{◌≡◌, refl, sym, ap, ◌∙◌}
 use Prim.Native.Nat.{ℕ, ◌+◌, ◌*◌, ◌/◌, ◌%◌, ◌^◌, ◌<◌}
 use native.Mathlib.Omega.{arith}
@@ -83,7 +85,7 @@ phase-testing s w x y r (ex, hs) (ey, hw) e =
 -- the host's order
 
 pub host-message : (f l x y r b : ℕ) → (x ≡ l) × (l < 2 ^ 8) → (y ≡ f) × (f < 2 ^ 16) → r ≡ 1 + 2 ^ 8 * x + 2 ^ 16 * y
-    → host_at r b ≡ Message f l b
+    → host_at r b ≡ Some (Message f l b)
 unfolding host_at
 host-message f l x y r b (ex, hl) (ey, hf) e = λ i. host_from (tag i) (whole 16 (r / 2 ^ 16) f hf field i) (part 8 (r / 2 ^ 8) l f hl len i) b
   where
@@ -99,12 +101,17 @@ host-message f l x y r b (ex, hl) (ey, hf) e = λ i. host_from (tag i) (whole 16
     field : r / 2 ^ 16 ≡ f
     field = pack-header 1 l f r (omega arith) hl (omega arith) is
 
-pub host-enquiry : (l x r b : ℕ) → (x ≡ l) × (l < 2 ^ 8) → r ≡ 2 + 2 ^ 8 * x → host_at r b ≡ Enquiry l b
+pub host-enquiry : (l x r b : ℕ) → (x ≡ l) × (l < 2 ^ 8) → r ≡ 2 + 2 ^ 8 * x → host_at r b ≡ Some (Enquiry l b)
 unfolding host_at
 host-enquiry l x r b (ex, hl) e =
     let t : r % 2 ^ 8 ≡ 2 = omega arith in
     let q : r / 2 ^ 8 ≡ l = omega arith in
     λ i. host_from (t i) (r / 2 ^ 16 % 2 ^ 16) (whole 8 (r / 2 ^ 8) l hl q i) b
+
+-- a bit tells what it was made of
+pub bit-back : (b : Bool) (r : ℕ) → r ≡ bool_byte b → (eqb r 1 ≡ b) × (r < 2)
+bit-back true r e = (ap (λ (x : ℕ). eqb x 1) e, omega arith)
+bit-back false r e = (ap (λ (x : ℕ). eqb x 1) e, omega arith)
 
 -- the word of alias, link state, whether the first alias is past, phase and what waits
 pub state-of : (n : Node) (w a r m o e k l f p : ℕ) → (a ≡ n.alias.0) × (n.alias.0 < 2 ^ 16)

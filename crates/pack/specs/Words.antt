@@ -1,5 +1,5 @@
 -- What words say of a frame, of a node and of ages, whatever the words are. Where they stand in a segment is said above.
-use Rattle.std.specs.Prelude.{◌≡◌, ℕ, ◌+◌, ◌-◌, ◌/◌, ◌%◌, ◌^◌, Bool, cond, ltb, eqb}
+use Rattle.std.specs.Prelude.{Option, Some, None, ◌≡◌, ℕ, ◌+◌, ◌-◌, ◌/◌, ◌%◌, ◌^◌, Bool, cond, ltb, eqb}
 use Rattle.node.specs.Rules.{link_of, generator}
 use Rattle.headers.specs.declared.alias.Alias.{Alias}
 use Rattle.headers.specs.declared.frame.Frame.{Frame}
@@ -10,11 +10,11 @@ use Rattle.state.specs.declared.Reason.TheVariants.{Collision, Release}
 use Rattle.state.specs.declared.Waiting.{Waiting}
 use Rattle.state.specs.declared.Link.{Link}
 use Rattle.state.specs.declared.Error.{Error}
-use Rattle.state.specs.declared.Error.TheVariants.{NoReport, Report0, Report1, Report2, Report3}
+use Rattle.state.specs.declared.Error.TheVariants.{Report0, Report1, Report2, Report3}
 use Rattle.state.specs.declared.Host.{Host}
-use Rattle.state.specs.declared.Host.TheVariants.{Empty, Message, Enquiry}
+use Rattle.state.specs.declared.Host.TheVariants.{Message, Enquiry}
 use Rattle.state.specs.declared.Timed.{Timed}
-use Rattle.state.specs.declared.Timed.TheVariants.{Untimed, Reply, Amr}
+use Rattle.state.specs.declared.Timed.TheVariants.{Reply, Amr}
 
 -- A FRAME
 
@@ -36,16 +36,16 @@ phase_from tag sent ticks =
 unfoldable pub phase_at : ℕ → Phase
 phase_at w = phase_from (w % 8) (w / 8 % 256) (w / 2048 % 256)
 
-abbrev pub host_from : (tag field len bytes : ℕ) → Host
-host_from tag field len d = cond (ltb tag 1) Empty (cond (ltb tag 2) (Message field len d) (Enquiry len d))
+abbrev pub host_from : (tag field len bytes : ℕ) → Option Host
+host_from tag field len d = cond (ltb tag 1) None (cond (ltb tag 2) (Some (Message field len d)) (Some (Enquiry len d)))
 
-unfoldable pub host_at : ℕ → ℕ → Host
+unfoldable pub host_at : ℕ → ℕ → Option Host
 host_at w d = host_from (w % 2 ^ 8) (w / 2 ^ 16 % 2 ^ 16) (w / 2 ^ 8 % 2 ^ 8) d
 
-abbrev pub host_bytes : Host → ℕ
-host_bytes Empty = 0
-host_bytes (Message field len bytes) = bytes
-host_bytes (Enquiry len bytes) = bytes
+abbrev pub host_bytes : Option Host → ℕ
+host_bytes None = 0
+host_bytes (Some (Message field len bytes)) = bytes
+host_bytes (Some (Enquiry len bytes)) = bytes
 
 abbrev pub alias_from : ℕ → Alias
 alias_from w = record { 0 = w % 2 ^ 16 }
@@ -56,14 +56,14 @@ phase_in w = phase_at (w / 2 ^ 25 % 2 ^ 19)
 abbrev pub reply_in : ℕ → Bool
 reply_in w = eqb (w / 2 ^ 16 % 2) 1
 
-abbrev pub error_from : (tag : ℕ) → Error
+abbrev pub error_from : (tag : ℕ) → Option Error
 error_from tag =
-    cond (ltb tag 1) NoReport
-    (cond (ltb tag 2) Report0
-    (cond (ltb tag 3) Report1
-    (cond (ltb tag 4) Report2 Report3)))
+    cond (ltb tag 1) None
+    (cond (ltb tag 2) (Some Report0)
+    (cond (ltb tag 3) (Some Report1)
+    (cond (ltb tag 4) (Some Report2) (Some Report3))))
 
-abbrev pub waiting_from : ℕ → Host → Waiting
+abbrev pub waiting_from : ℕ → Option Host → Waiting
 waiting_from w h = record {
   reply = reply_in w;
   amd = eqb (w / 2 ^ 17 % 2) 1;
@@ -106,7 +106,7 @@ pub record Rephased (w : ℕ) (p : Phase) (r : ℕ) : Type 0 where
   pub alias : alias_from r ≡ alias_from w
   pub past : past_in r ≡ past_in w
   pub phase : phase_in r ≡ p
-  pub waiting : (h : Host) → waiting_from r h ≡ waiting_from w h
+  pub waiting : (h : Option Host) → waiting_from r h ≡ waiting_from w h
 
 -- AGES
 
@@ -122,17 +122,17 @@ abbrev pub since : (clock stamp : ℕ) → ℕ
 since c s = (c % round + round - s % round) % round
 
 -- An age is there where a reply RID or AMR waits.
-abbrev pub timed_age : Timed → ℕ → ℕ
-timed_age Untimed g = 0
-timed_age Reply g = g
-timed_age Amr g = g
+abbrev pub timed_age : Option Timed → ℕ → ℕ
+timed_age None g = 0
+timed_age (Some Reply) g = g
+timed_age (Some Amr) g = g
 
 -- The stamp after an event: it stays where the same frame still waits for the alias, else an age begins now.
-abbrev pub stamp_on : (was is : Timed) → (stamp clock : ℕ) → ℕ
-stamp_on Untimed is s c = c
-stamp_on Reply Untimed s c = c
-stamp_on Reply Reply s c = s
-stamp_on Reply Amr s c = c
-stamp_on Amr Untimed s c = c
-stamp_on Amr Reply s c = c
-stamp_on Amr Amr s c = s
+abbrev pub stamp_on : (was is : Option Timed) → (stamp clock : ℕ) → ℕ
+stamp_on None is s c = c
+stamp_on (Some Reply) None s c = c
+stamp_on (Some Reply) (Some Reply) s c = s
+stamp_on (Some Reply) (Some Amr) s c = c
+stamp_on (Some Amr) None s c = c
+stamp_on (Some Amr) (Some Reply) s c = c
+stamp_on (Some Amr) (Some Amr) s c = s

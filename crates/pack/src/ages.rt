@@ -8,21 +8,13 @@ use state::Timed;
 pub const ROUND: u64 = 0x1_0000;
 
 // The stamp after an event: it stays where the same frame still waits for the alias, else an age begins now.
-pub fn stamp_on(was: Timed, is: Timed, stamp: u64, clock: u64) -> u64
+pub fn stamp_on(was: Option<Timed>, is: Option<Timed>, stamp: u64, clock: u64) -> u64
     ensures { result ≡ stamp_on was is stamp clock }
 {
-    match was {
-        Timed::Untimed => clock,
-        Timed::Reply => match is {
-            Timed::Untimed => clock,
-            Timed::Reply => stamp,
-            Timed::Amr => clock,
-        },
-        Timed::Amr => match is {
-            Timed::Untimed => clock,
-            Timed::Reply => clock,
-            Timed::Amr => stamp,
-        },
+    if was.is_some() && was == is {
+        stamp
+    } else {
+        clock
     }
 }
 
@@ -34,12 +26,8 @@ pub fn since(clock: u64, stamp: u64) -> u64
 }
 
 // The age of what waits, where that has one.
-pub fn timed_age(t: Timed, age: u64) -> u64
+pub fn timed_age(t: Option<Timed>, age: u64) -> u64
     ensures { result ≡ timed_age t age }
 {
-    match t {
-        Timed::Untimed => 0,
-        Timed::Reply => age,
-        Timed::Amr => age,
-    }
+    if t.is_some() { age } else { 0 }
 }

@@ -1,9 +1,9 @@
 -- Laws of the forms of the commands: how many bytes each takes, and the command that they make.
 use Rattle.std.specs.Prelude.{◌≡◌, ℕ, zero, suc, ◌+◌, ◌*◌, ◌^◌, ◌<◌, ◌≤◌, Bool, true, false, cond, leb, eqb, length, get_or}
 use Rattle.std.proofs.Math.Path.{refl}
-use Rattle.std.proofs.Common.{ap, subst, sym, ◌∙◌, arith, add-zero, add-suc, add_assoc, mul_assoc, pow-suc, le-leb, ne_eqb, eqb-true}
+use Rattle.std.proofs.Common.{ap, subst, sym, ◌∙◌, arith, add-zero, add-suc, add_assoc, add-one, mul_assoc, pow-suc, le-leb, ne_eqb, eqb-true}
 use mathlib.Core.List.{List, [], ◌∷◌}
-use Rattle.std.proofs.Math.Nat.{pow-zero}
+use Rattle.std.proofs.Math.Nat.{pow-zero, pow-le-pow_right}
 use Rattle.std.proofs.lemmas.Bool.{lt-leb}
 use Rattle.segment_rules.specs.Rules.{Command, warm_on}
 use Rattle.script.specs.Rules.{number, Form, operand, makes, unknown, form, Found, command, refusal, nothing, found, read_of}
@@ -25,6 +25,16 @@ unfolding number
 join s from j zero = rw (add-zero j, pow-zero) (omega arith)
 join s from j (suc k) =
     rw (add-suc, pow-suc, ← mul_assoc (number s from j) (256 ^ k) 256, add_assoc from j k, join s from j k) (omega arith)
+
+-- A byte more: the number goes on by it, and stays below the next power.
+pub number-next : (s : List ℕ) (from k n b : ℕ) → (n ≡ number s from k) × (n < 256 ^ k) → b ≡ get_or s (from + k) 0 → b < 256
+    → (256 * n + b ≡ number s from (k + 1)) × (256 * n + b < 256 ^ (k + 1))
+unfolding number
+number-next s from k n b (e, h) eb hb = rw (add-one k, pow-suc 256 k) (omega (arith, e, eb), omega arith)
+
+-- Below eight bytes there is room for one more.
+pub room-on : (k n b : ℕ) → n < 256 ^ k → k < 8 → b < 256 → 256 * n + b < 2 ^ 64
+room-on k n b h hk hb = let j : k ≤ 7 = omega arith in let p : 256 ^ k ≤ 256 ^ 7 = pow-le-pow_right {n = 256} (omega arith) {i = k} {j = 7} j in omega arith
 
 -- What `Whole` says of a command that is known by its number.
 pub at_key : (k : ℕ) (s : List ℕ) {b : ℕ} → b ≡ k → Whole b s → ends (form k) 1 s ≤ length s

@@ -1,9 +1,10 @@
 -- A run, turn by turn: what is written, followed by what is still to come, stays the whole output.
-use Rattle.std.specs.Prelude.{◌≡◌, refl, ℕ, ◌+◌, ◌-◌, ◌<◌, Bool, true, not, cond, List, [], ◌∷◌, ◌++◌, length, drop}
+use Rattle.std.specs.Prelude.{Option, Result, ◌≡◌, refl, ℕ, ◌+◌, ◌-◌, ◌<◌, Bool, true, not, cond, List, [], ◌∷◌, ◌++◌, length, drop}
 use Rattle.std.proofs.Math.Path.{ap, subst⁻¹}
 use Rattle.std.proofs.Common.{sym, ◌∙◌, append_assoc, append-nil, arith, length-drop, drop-drop}
 use Rattle.std.proofs.Math.Bool.{false}
-use Rattle.text.specs.Rules.{sheet, write, Wrote, Printed}
+use Rattle.text.specs.Rules.{sheet, write, Wrote, Puts, Printed}
+use Rattle.text.specs.declared.buffer.Sheet as S
 use Rattle.text.specs.Sheet.{carried, printed}
 use Rattle.node.specs.Rules.{Answer, Value, refused}
 use Rattle.segment_rules.specs.Rules.{limit, start, Command, answer, Told, step, run, is_kept}
@@ -13,11 +14,15 @@ use Rattle.claim.specs.Claim.{begun, then}
 use Rattle.claim.proofs.Claim.{run-snoc, follows, told-so}
 use Rattle.script.specs.Rules.{Found, command, refusal, nothing, read_of, Script, next, stop, end, onward, script_of, listed, line, lines, last_line, output_of, output}
 use Rattle.script.specs.Answers.{read_as}
+use Rattle.script.specs.declared.command.Next.{Next}
+use Rattle.script.specs.declared.command.Fault.{Fault}
 use Rattle.script.specs.Scripts.{taken}
 use Rattle.script.proofs.Scripts.{taken-within, next-takes, goes_on}
-use Rattle.script.specs.declared.command.Read.{Read}
-use Rattle.script.specs.declared.program.Progress.{Progress}
-use Rattle.script.specs.Turns.{ahead, rest, Going, Turned, Through, Standing, begin, left}
+use Rattle.script.specs.Turns.{Progress, ahead, rest, Going, Turned, Through, Ended, Standing, begin, left}
+
+-- A run that goes on, with so many lines done and the place of the next.
+abbrev pub going_on : (done place : ℕ) → Progress
+going_on n k = record { done = n; place = k; more = true }
 
 -- THE CASES OF A TURN
 
@@ -121,9 +126,9 @@ module _ (t out : List ℕ) (p : Progress) where
   }
 
 -- the same of what the code has read
-pub by_read : {p q : Progress} {t out t' out' : List ℕ} {x y : Read} → x ≡ y
+pub by_read : {p q : Progress} {t out t' out' : List ℕ} {x y : Result (Option Next) Fault} → x ≡ y
     → Turned p (read_as y) t out q t' out' → Turned p (read_as x) t out q t' out'
-by_read {p} {q} {t} {out} {t'} {out'} e turned = subst⁻¹ (λ (r : Read). Turned p (read_as r) t out q t' out') e turned
+by_read {p} {q} {t} {out} {t'} {out'} e turned = subst⁻¹ (λ (r : Result (Option Next) Fault). Turned p (read_as r) t out q t' out') e turned
 
 pub standing-begun : (script old t : List ℕ) → Fresh t → Standing script old 0 begin t old
 unfolding ahead output output_of run
@@ -169,3 +174,8 @@ through-printed script old t out new p r late through is wrote =
     text =
         ap last_line said ∙ sym (ahead-end g.commands p.done)
         ∙ ap (ahead g.commands p.done) (sym (rest-none script through.at p through.last))
+
+-- The same of the code's sheet, once it is let go.
+pub ended-printed : {script old new t : List ℕ} {s s₁ s₂ : S.Sheet} {late : Bool} → Ended script s t s₁ → late ≡ late_of t
+    → Puts s₁ (last_line (not late)) s₂ → s.out.now ≡ old → new ≡ s₂.out.now → Printed (output script) old new s₂.at
+ended-printed e is p eo en = rw (en, ← eo) (through-printed _ _ _ _ _ _ _ _ e.through is p.wrote)

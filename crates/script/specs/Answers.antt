@@ -1,9 +1,12 @@
--- Document 01's command, and its number and values, for each case of the code's enums.
+-- Document 01's command for each case of the code's, and what is read of a script, a fault with its number.
+use Rattle.std.specs.Prelude.{Option, Some, None, Result, Ok, Err}
 use Rattle.headers.specs.Rules.{id_bytes, packed}
 use Rattle.segment_rules.specs.Rules.{Command, power_on, send, fail, deliver, tick, foreign, message, enquiry, release, warm_on}
 use Rattle.script.specs.Rules.{Found, command, refusal, nothing}
 use Rattle.script.specs.declared.command.Command as C
-use Rattle.script.specs.declared.command.Read as R
+use Rattle.script.specs.declared.command.Next.{Next}
+use Rattle.script.specs.declared.command.Fault.{Fault}
+use Rattle.script.specs.declared.command.Fault.TheVariants.{Unknown, CutShort}
 
 abbrev pub command_as : C.Command → Command
 command_as (C.TheVariants.PowerOn index id) = power_on index id
@@ -18,8 +21,8 @@ command_as (C.TheVariants.Release index) = release index
 command_as (C.TheVariants.WarmOn index id flag state) = warm_on index id flag state
 
 -- An unknown command is 10, one cut short 11.
-abbrev pub read_as : R.Read → Found
-read_as R.TheVariants.End = nothing
-read_as (R.TheVariants.Next byte c took) = command byte (command_as c) took
-read_as (R.TheVariants.Unknown byte) = refusal byte 10
-read_as (R.TheVariants.CutShort byte) = refusal byte 11
+abbrev pub read_as : Result (Option Next) Fault → Found
+read_as (Ok None) = nothing
+read_as (Ok (Some next)) = command next.byte (command_as next.command) next.took
+read_as (Err (Unknown byte)) = refusal byte 10
+read_as (Err (CutShort byte)) = refusal byte 11

@@ -1,12 +1,18 @@
 -- What the theorems of proofs/Turns.antt speak of; these definitions are to be believed.
-use Rattle.std.specs.Prelude.{◌≡◌, ℕ, ◌+◌, ◌-◌, ◌≤◌, true, cond, List, ◌++◌, length, drop}
+use Rattle.std.specs.Prelude.{◌≡◌, ℕ, ◌+◌, ◌-◌, ◌≤◌, true, Bool, cond, List, ◌++◌, length, drop}
 use Rattle.std.proofs.Math.Bool.{false}
 use Rattle.text.specs.Rules.{sheet, write}
 use Rattle.segment_rules.specs.Rules.{limit, start, Command, Told, run, is_kept}
 use Rattle.claim.specs.Claim.{Carried}
 use Rattle.script.specs.Rules.{Found, read_of, Script, end, script_of, listed, lines, last_line, output}
 use Rattle.script.specs.Scripts.{taken}
-use Rattle.script.specs.declared.program.Progress.{Progress}
+use Rattle.text.specs.declared.buffer.Sheet as S
+
+-- Where a run stands: how many commands have their line, the place in the buffer, and whether there may be more to read.
+pub record Progress : Type 0 where
+  pub done : ℕ
+  pub place : ℕ
+  pub more : Bool
 
 -- What the commands cs leave to write, count of them done, where s comes next.
 unfoldable pub ahead : List Command → (count : ℕ) → Script → List ℕ
@@ -35,6 +41,12 @@ pub record Through (script old : List ℕ) (p : Progress) (t out : List ℕ) : T
   pub at : ℕ
   pub going : Going script old at p t out
   pub last : p.more ≡ false
+
+-- The code's run on a sheet has read its script to the end.
+pub record Ended (script : List ℕ) (s : S.Sheet) (t : List ℕ) (s' : S.Sheet) : Type 0 where
+  pub done : ℕ
+  pub same : s'.out.ghost_name ≡ s.out.ghost_name
+  pub through : Through script s.out.now (record { done = done; place = s'.at; more = false }) t s'.out.now
 
 -- THE LOOP
 

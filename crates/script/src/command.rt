@@ -1,13 +1,13 @@
 // The commands of a script, and how one is read from the bytes that it starts.
-ghost use Rattle.std.specs.Prelude.{◌≡◌, ◌+◌, ◌<◌, ◌≤◌, ◌^◌, length, drop};
-ghost use Rattle.script.specs.Rules.{number, form, read_of};
+ghost use Rattle.std.specs.Prelude.{◌≡◌, ◌+◌, ◌<◌, ◌≤◌, ◌^◌, length, drop, unwrap_or, IfSome, Err};
+ghost use Rattle.script.specs.Rules.{number, form, read_of, refusal};
 ghost use Rattle.script.specs.Answers.{command_as, read_as};
 ghost use Rattle.script.specs.Forms.{Takes, made, Whole};
-ghost use Rattle.script.specs.Scripts.{taken};
 
 use headers::frame::Frame;
 
-#[derive(Clone, Copy)]
+// Operands are as the script has them, numbers out of range too: the table refuses them.
+#[derive(Clone, Copy, Debug, PartialEq, Eq)]
 pub enum Command {
     PowerOn {
         index: u8,
@@ -38,95 +38,70 @@ pub enum Command {
     },
 }
 
-// What stands at the head of the rest of a script.
-#[derive(Clone, Copy)]
-pub enum Read {
-    End,
-    // A command with its byte, and how many bytes it takes.
-    Next {
-        byte: u8,
-        command: Command,
-        took: usize,
-    },
+// A command of a script with its byte, and how many bytes it takes. The byte stays a number: the output repeats it, and an unknown
+// one too.
+#[derive(Clone, Copy, Debug, PartialEq, Eq)]
+pub struct Next {
+    pub byte: u8,
+    pub command: Command,
+    pub took: usize,
+}
+
+// A byte that ends the run: it starts no command, or one that is cut short.
+#[derive(Clone, Copy, Debug, PartialEq, Eq)]
+pub enum Fault {
     Unknown(u8),
     CutShort(u8),
 }
 
-impl Read {
-    // How many bytes of the script are behind it: those of a command.
-    pub(crate) fn took(self) -> usize
-        ensures { result ≡ taken (read_as self) }
+impl Fault {
+    // The byte, and the number of its refusal: the rules' `refusal` has the two together.
+    pub(crate) fn refusal(self) -> (u8, u8)
+        ensures { read_as (Err self) ≡ refusal result.0 result.1 }
     {
         match self {
-            Read::End => 0,
-            Read::Next {
-                byte: _,
-                command: _,
-                took,
-            } => took,
-            Read::Unknown(_) => 0,
-            Read::CutShort(_) => 0,
+            Fault::Unknown(byte) => (byte, 10),
+            Fault::CutShort(byte) => (byte, 11),
         }
     }
 }
 
-fn wide(x: u8) -> u64
-    ensures { (result ≡ x) × (result < 2 ^ 8) }
+// The number that the N bytes from a place on make, the highest first. By places, as the rules' `number` goes: a loop over
+// `&s[from..from + N]` names the same place twice and is no plainer.
+#[tactic(auto, unfolding(crate::specs::Rules::number))]
+fn number<const N: usize>(s: &[u8], from: usize) -> u64
+    requires { (N ≤ 8) × (from + N ≤ length s.now) }
+    ensures { (result ≡ number s.now from N) × (result < 256 ^ N) }
 {
-    x as u64
+    let mut n = 0;
+    for i in 0..N {
+        n = 0x100 * n + u64::from(s[from + i]);
+    }
+    n
 }
 
-// Numbers of two, four, six and eight bytes, the highest first.
-fn two(s: &[u8], from: usize) -> u64
-    requires { from + 2 ≤ length s.now }
-    ensures { (result ≡ number s.now from 2) × (result < 2 ^ 16) }
-{
-    let high = wide(s[from]);
-    let low = wide(s[from + 1]);
-    high * 0x100 + low
-}
-
-fn four(s: &[u8], from: usize) -> u64
-    requires { from + 4 ≤ length s.now }
-    ensures { (result ≡ number s.now from 4) × (result < 2 ^ 32) }
-{
-    two(s, from) * 0x1_0000 + two(s, from + 2)
-}
-
-fn six(s: &[u8], from: usize) -> u64
-    requires { from + 6 ≤ length s.now }
-    ensures { (result ≡ number s.now from 6) × (result < 2 ^ 48) }
-{
-    four(s, from) * 0x1_0000 + two(s, from + 4)
-}
-
-fn eight(s: &[u8], from: usize) -> u64
-    requires { from + 8 ≤ length s.now }
-    ensures { result ≡ number s.now from 8 }
-{
-    four(s, from) * 0x1_0000_0000 + four(s, from + 4)
-}
-
-// How many bytes a command takes, its own byte included; 0 for an unknown one.
-fn size_of(byte: u8) -> usize
-    ensures { Takes byte result }
+// How many bytes a command takes, its own byte included; none for an unknown one. This match and the next are the paper's table of
+// forms: what they choose is a number and an operand's reading, no step.
+#[tactic(auto, unfolding(crate::specs::Rules::form))]
+fn size_of(byte: u8) -> Option<usize>
+    ensures takes { Takes byte (unwrap_or result 0) }
+    ensures some { IfSome result (λ n. 0 < n) }
 {
     match byte {
-        1 => 8,
-        2 => 2,
-        3 => 2,
-        4 => 2,
-        5 => 1,
-        6 => 15,
-        7 => 13,
-        8 => 9,
-        9 => 2,
-        10 => 15,
-        _ => 0,
+        1 => Some(8),
+        2 | 3 | 4 => Some(2),
+        5 => Some(1),
+        6 => Some(15),
+        7 => Some(13),
+        8 => Some(9),
+        9 => Some(2),
+        10 => Some(15),
+        _ => None,
     }
 }
 
 // The command with this byte, whose operands are all there.
+#[tactic(auto, unfolding(crate::specs::Rules::form))]
 fn command_of(byte: u8, s: &[u8]) -> Command
     requires { Whole byte s.now }
     ensures { command_as result ≡ made (form byte) 1 s.now }
@@ -134,7 +109,7 @@ fn command_of(byte: u8, s: &[u8]) -> Command
     match byte {
         1 => Command::PowerOn {
             index: s[1],
-            id: six(s, 2),
+            id: number::<6>(s, 2),
         },
         2 => Command::Send(s[1]),
         3 => Command::Fail(s[1]),
@@ -142,62 +117,58 @@ fn command_of(byte: u8, s: &[u8]) -> Command
         5 => Command::Tick,
         6 => Command::Foreign(Frame {
             kind: s[1],
-            header: four(s, 2) as u32,
+            header: number::<4>(s, 2) as u32,
             len: s[6],
-            bytes: eight(s, 7),
+            bytes: number::<8>(s, 7),
         }),
         7 => Command::Message {
             index: s[1],
-            field: two(s, 2) as u16,
+            field: number::<2>(s, 2) as u16,
             len: s[4],
-            bytes: eight(s, 5),
+            bytes: number::<8>(s, 5),
         },
         8 => Command::Enquiry {
             index: s[1],
             len: s[2],
-            id: six(s, 3),
+            id: number::<6>(s, 3),
         },
         9 => Command::Release(s[1]),
         _ => Command::WarmOn {
             index: s[1],
-            id: six(s, 2),
+            id: number::<6>(s, 2),
             flag: s[8],
-            state: six(s, 9),
+            state: number::<6>(s, 9),
         },
     }
 }
 
-// The command at the head of the rest of a script.
-pub fn read_command(rest: &[u8]) -> Read
+// The command at the head of the rest of a script, if there is more of it.
+pub fn read_command(rest: &[u8]) -> Result<Option<Next>, Fault>
     ensures { read_as result ≡ read_of rest.now }
 {
-    let have = rest.len();
-    if have == 0 {
-        return Read::End;
+    let [byte, ..] = *rest else {
+        return Ok(None);
+    };
+    let Some(took) = size_of(byte) else {
+        return Err(Fault::Unknown(byte));
+    };
+    if rest.len() < took {
+        return Err(Fault::CutShort(byte));
     }
-    let byte = rest[0];
-    let took = size_of(byte);
-    if took == 0 {
-        return Read::Unknown(byte);
-    }
-    if have < took {
-        return Read::CutShort(byte);
-    }
-    let command = command_of(byte, rest);
-    Read::Next {
+    Ok(Some(Next {
         byte,
-        command,
+        command: command_of(byte, rest),
         took,
-    }
+    }))
 }
 
 // The command at a place of a script: the part from there to the end is lent to the command reader.
-pub(crate) fn read_at(script: &[u8], at: usize) -> Read
+pub(crate) fn read_at(script: &[u8], at: usize) -> Result<Option<Next>, Fault>
     ensures { read_as result ≡ read_of (drop at script.now) }
 {
     if at < script.len() {
         read_command(&script[at..])
     } else {
-        Read::End
+        Ok(None)
     }
 }

@@ -1,116 +1,92 @@
 // A whole run: a script is carried out on a table with all nodes Off, and its lines are put into a lent buffer.
-ghost use Rattle.std.specs.Prelude.{◌≡◌, false, ◌+◌, ◌<◌, ◌^◌};
-ghost use Rattle.node.specs.Rules.{refused};
+ghost use Rattle.std.specs.Prelude.{◌≡◌};
+ghost use Rattle.state.specs.Answers.{done_as, left_as, answer_as};
 ghost use Rattle.table.specs.Words.{Fresh};
 ghost use Rattle.table.specs.Promise.{Does};
-ghost use Rattle.text.specs.Rules.{sheet, Wrote, Printed, PrintedWhole};
-ghost use Rattle.script.specs.Rules.{line, output, used};
-ghost use Rattle.script.specs.Answers.{command_as, read_as};
-ghost use Rattle.script.specs.Turns.{Turned, Through};
+ghost use Rattle.text.specs.Rules.{Printed, PrintedWhole};
+ghost use Rattle.script.specs.Rules.{output, used};
+ghost use Rattle.script.specs.Answers.{command_as};
+ghost use Rattle.script.specs.Turns.{Ended};
 
-use crate::command::{Command, Read};
-use crate::{lines, reader};
-use state::Answer;
+use crate::command::Command;
+use crate::lines;
+use crate::reader::Reader;
+use headers::frame::Frame;
+use headers::node_id::packed_id;
+use headers::refusal::Refusal;
 use table::commands;
 use table::layout::WORDS;
+use text::buffer::Sheet;
 
-// Where a run stands: how many commands have their line, the place in the buffer, and whether there may be more to read.
-#[derive(Clone, Copy)]
-pub(crate) struct Progress {
-    pub done: u64,
-    pub place: usize,
-    pub more: bool,
+// An answer with no frame, and one with the frame that left, each as a line's answer.
+fn plain(answer: Result<(), Refusal>) -> Result<Option<Frame>, Refusal>
+    ensures { answer_as result ≡ done_as answer }
+{
+    answer.map(|()| None)
 }
 
-// One command on the table.
-fn carry_out(table: &mut [u64; WORDS], command: Command) -> Answer
-    ensures { Does (command_as command) table.old result table.new }
+fn sent(answer: Result<Frame, Refusal>) -> Result<Option<Frame>, Refusal>
+    ensures { answer_as result ≡ left_as answer }
+{
+    answer.map(Some)
+}
+
+// One command on the table: its answer, with the frame that left where one did.
+fn carry_out(table: &mut [u64; WORDS], command: Command) -> Result<Option<Frame>, Refusal>
+    ensures { Does (command_as command) table.old (answer_as result) table.new }
 {
     match command {
-        Command::PowerOn { index, id } => commands::power_on(&mut *table, index as usize, id),
-        Command::Send(index) => commands::send(&mut *table, index as usize),
-        Command::Fail(index) => commands::fail(&mut *table, index as usize),
-        Command::Deliver(index) => commands::deliver(&mut *table, index as usize),
-        Command::Tick => commands::tick(&mut *table),
-        Command::Foreign(f) => commands::foreign(&mut *table, f),
+        Command::PowerOn { index, id } => plain(commands::power_on(table, usize::from(index), id)),
+        Command::Send(index) => sent(commands::send(table, usize::from(index))),
+        Command::Fail(index) => plain(commands::fail(table, usize::from(index))),
+        Command::Deliver(index) => plain(commands::deliver(table, usize::from(index))),
+        Command::Tick => {
+            commands::tick(table);
+            Ok(None)
+        }
+        Command::Foreign(f) => plain(commands::foreign(table, f)),
         Command::Message {
             index,
             field,
             len,
             bytes,
-        } => commands::message(&mut *table, index as usize, field, len, bytes),
+        } => { plain(commands::message(table, usize::from(index), field, len, bytes)) }
         Command::Enquiry { index, len, id } => {
-            let bytes = headers::node_id::packed_id(id);
-            commands::enquiry(&mut *table, index as usize, len, bytes)
+            plain(commands::enquiry(table, usize::from(index), len, packed_id(id)))
         }
-        Command::Release(index) => commands::release(&mut *table, index as usize),
+        Command::Release(index) => plain(commands::release(table, usize::from(index))),
         Command::WarmOn {
             index,
             id,
             flag,
             state,
-        } => commands::warm_on(&mut *table, index as usize, id, flag, state),
-    }
-}
-
-// The line of a command that the script's own refusal ends the run with.
-fn stopped(run: Progress, out: &mut [u8], count: u64, byte: u8, number: u8) -> Progress
-    ensures { (result.more ≡ false) × Wrote (sheet out.old run.place) (line count byte (refused number)) (sheet out.new result.place) }
-{
-    let place = lines::put_refused(out, run.place, count, byte, number);
-    Progress {
-        done: count,
-        place,
-        more: false,
-    }
-}
-
-// What was read of the script is carried out, and gets its line.
-fn turn(run: Progress, read: Read, table: &mut [u64; WORDS], out: &mut [u8]) -> Progress
-    requires { run.done + 1 < 2 ^ 64 }
-    ensures { Turned run (read_as read) table.old out.old result table.new out.new }
-{
-    let count = run.done + 1;
-    match read {
-        Read::End => Progress {
-            done: run.done,
-            place: run.place,
-            more: false,
-        },
-        Read::Next {
-            byte,
-            command,
-            took: _,
-        } => {
-            let answer = carry_out(&mut *table, command);
-            let place = lines::put_line(out, run.place, count, byte, answer);
-            Progress {
-                done: count,
-                place,
-                more: true,
-            }
-        }
-        Read::Unknown(byte) => stopped(run, out, count, byte, 10),
-        Read::CutShort(byte) => stopped(run, out, count, byte, 11),
+        } => { plain(commands::warm_on(table, usize::from(index), id, flag, state)) }
     }
 }
 
 // A whole script on a table with all nodes Off: one reader moves through it, command by command.
-fn run_through(script: &[u8], table: &mut [u64; WORDS], out: &mut [u8]) -> Progress
-    requires { Fresh table.old }
-    ensures { Through script.now out.old result table.new out.new }
+fn run_through(script: &[u8], table: &mut [u64; WORDS], sheet: &mut Sheet)
+    requires { Fresh table.old × (sheet.old.at ≡ 0) }
+    ensures { Ended script.now sheet.old table.new sheet.new }
 {
-    let mut reader = reader::new(script);
-    let mut run = Progress {
-        done: 0,
-        place: 0,
-        more: true,
-    };
-    while run.more {
-        let read = reader::next(&mut reader);
-        run = turn(run, read, table, out);
+    let mut reader = Reader::new(script);
+    let mut done = 0;
+    'commands: loop {
+        let read = match reader.next() {
+            Ok(read) => read,
+            Err(fault) => {
+                let (byte, number) = fault.refusal();
+                lines::put_refused(sheet, done + 1, byte, number);
+                return;
+            }
+        };
+        let Some(next) = read else {
+            return;
+        };
+        let answer = carry_out(table, next.command);
+        done += 1;
+        lines::put_line(sheet, done, next.byte, answer);
     }
-    run
 }
 
 // The whole output of a script, from all nodes Off, as far as the buffer has room for it, and how many bytes of it that is.
@@ -119,10 +95,10 @@ pub fn run(script: &[u8], out: &mut [u8]) -> usize
 {
     let mut table = [0u64; WORDS];
     commands::new(&mut table);
-    let run = run_through(script, &mut table, out);
-    let late = commands::is_late(&table);
-    let place = run.place;
-    lines::put_last(out, place, late)
+    let mut sheet = Sheet::new(out);
+    run_through(script, &mut table, &mut sheet);
+    lines::put_last(&mut sheet, commands::is_late(&table));
+    sheet.at
 }
 
 // What is used of an input; the longest line, `65536 02 ok` with a header and eight bytes of data; the last line; and so

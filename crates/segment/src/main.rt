@@ -5,7 +5,7 @@ use reading::read_full;
 use script::program;
 use std::io;
 
-// Room for the longest output.
+// Room for the longest output. An array: nothing is allocated.
 fn room() -> [u8; program::ROOM] {
     [0u8; program::ROOM]
 }

@@ -1,5 +1,5 @@
 -- Laws of limits: how far ages can have grown, also where no time passes; and that the rules' tests say the same.
-use Rattle.std.specs.Prelude.{◌≡◌, refl, ◌≢◌, Bool, true, false, cond, ◌||◌, List, [], ◌∷◌, ◌++◌, map, ℕ, zero, suc, ◌+◌, ◌<◌, ◌≤◌, ltb, eqb}
+use Rattle.std.specs.Prelude.{◌≡◌, refl, ◌≢◌, Bool, true, false, cond, ◌||◌, List, [], ◌∷◌, ◌++◌, map, ℕ, zero, suc, ◌+◌, ◌<◌, ◌≤◌, ltb, eqb, Option, Some, None}
 use Rattle.std.proofs.Common.{sym, ap, subst, ◌∙◌, arith, not-suc-le-zero, le-ltb, ltb-false, eq-eqb, eqb-true}
 use Rattle.std.proofs.lemmas.Bool.{false≢true, eqb-false}
 use Rattle.std.proofs.Math.Bool.{or-true}
@@ -7,7 +7,7 @@ use Rattle.node.specs.Rules.{uses, timed_at, HeldAlias, held, held_of, timed_in,
 use Rattle.node.proofs.Laws.{neither}
 use Rattle.node.specs.declared.Node.{Node}
 use Rattle.state.specs.declared.Timed.{Timed}
-use Rattle.state.specs.declared.Timed.TheVariants.{Untimed, Reply, Amr}
+use Rattle.state.specs.declared.Timed.TheVariants.{Reply, Amr}
 use Rattle.segment_rules.specs.Rules.{Place, Segment, Effect, stays, becomes, begins, reads, gets, rest, place_by, Ages, ages, ages_on, ages_by, pass_age, passes, any_old, timed_old, held_old, old_at, old}
 use Rattle.segment_rules.specs.Limits.{AgesTo, OutTo, InLimit}
 
@@ -20,10 +20,10 @@ passes-0 n g = λ j. ages (inbox g.inbox j) (λ a. waiting (timed_for n a) (g.wa
     inbox [] = refl
     inbox (x ∷ gs) = let e : x + 0 ≡ x = omega arith in λ j. e j ∷ inbox gs j
 
-    waiting : (t : Timed) (x : ℕ) → pass_age 0 t x ≡ x
-    waiting Untimed x = refl
-    waiting Reply x = omega arith
-    waiting Amr x = omega arith
+    waiting : (t : Option Timed) (x : ℕ) → pass_age 0 t x ≡ x
+    waiting None x = refl
+    waiting (Some Reply) x = omega arith
+    waiting (Some Amr) x = omega arith
 
 -- HOW FAR AGES CAN HAVE GROWN
 
@@ -38,19 +38,19 @@ to-push : (i : ℕ) (gs : List ℕ) → AgesTo i gs → AgesTo i (gs ++ (0 ∷ [
 to-push i [] h = (omega arith, tt)
 to-push i (g ∷ gs) h = (h.0, to-push i gs h.1)
 
-out-on : (o : ℕ) (t u : Timed) (x : ℕ) → OutTo o t x → OutTo o u (ages_on t u x)
-out-on o t Untimed x h = tt
-out-on o Untimed Reply x h = omega arith
-out-on o Untimed Amr x h = omega arith
-out-on o Reply Reply x h = h
-out-on o Reply Amr x h = omega arith
-out-on o Amr Reply x h = omega arith
-out-on o Amr Amr x h = h
+out-on : (o : ℕ) (t u : Option Timed) (x : ℕ) → OutTo o t x → OutTo o u (ages_on t u x)
+out-on o t None x h = tt
+out-on o None (Some Reply) x h = omega arith
+out-on o None (Some Amr) x h = omega arith
+out-on o (Some Reply) (Some Reply) x h = h
+out-on o (Some Reply) (Some Amr) x h = omega arith
+out-on o (Some Amr) (Some Reply) x h = omega arith
+out-on o (Some Amr) (Some Amr) x h = h
 
-pub out-any : (o : ℕ) (t : Timed) (x : ℕ) → x ≤ o → OutTo o t x
-out-any o Untimed x h = tt
-out-any o Reply x h = h
-out-any o Amr x h = h
+pub out-any : (o : ℕ) (t : Option Timed) (x : ℕ) → x ≤ o → OutTo o t x
+out-any o None x h = tt
+out-any o (Some Reply) x h = h
+out-any o (Some Amr) x h = h
 
 module _ (i o : ℕ) where
   pub limit-by : (e : Effect) (p : Place) (g : Ages) → InLimit i o p.node g → InLimit i o (place_by e p).node (ages_by e p.node g)
@@ -70,10 +70,10 @@ module _ (i o : ℕ) where
       go [] h = tt
       go (x ∷ gs) h = (omega (arith, h.0), go gs h.1)
 
-      timed : (t : Timed) (x : ℕ) → OutTo o t x → OutTo (o + d) t (pass_age d t x)
-      timed Untimed x h = tt
-      timed Reply x h = omega arith
-      timed Amr x h = omega arith
+      timed : (t : Option Timed) (x : ℕ) → OutTo o t x → OutTo (o + d) t (pass_age d t x)
+      timed None x h = tt
+      timed (Some Reply) x h = omega arith
+      timed (Some Amr) x h = omega arith
 
   pub limit-more : (i' o' : ℕ) → i ≤ i' → o ≤ o' → (n : Node) (g : Ages) → InLimit i o n g → InLimit i' o' n g
   limit-more i' o' li lo n g h = record { inbox = go g.inbox h.inbox; waiting = λ a. timed (timed_for n a) (g.waiting a) (h.waiting a) }
@@ -82,10 +82,10 @@ module _ (i o : ℕ) where
       go [] h = tt
       go (x ∷ gs) h = (omega (arith, h.0), go gs h.1)
 
-      timed : (t : Timed) (x : ℕ) → OutTo o t x → OutTo o' t x
-      timed Untimed x h = tt
-      timed Reply x h = omega arith
-      timed Amr x h = omega arith
+      timed : (t : Option Timed) (x : ℕ) → OutTo o t x → OutTo o' t x
+      timed None x h = tt
+      timed (Some Reply) x h = omega arith
+      timed (Some Amr) x h = omega arith
 
   -- AS THE RULES' TESTS SAY IT
 
@@ -97,15 +97,15 @@ module _ (i o : ℕ) where
   test-any [] e = tt
   test-any (g ∷ gs) e = let c = neither (ltb i g) (any_old i o gs) e in (ltb-false i g c.0, test-any gs c.1)
 
-  timed-test : (t : Timed) (x : ℕ) → OutTo o t x → timed_old i o t x ≡ false
-  timed-test Untimed x h = refl
-  timed-test Reply x h = le-ltb o x h
-  timed-test Amr x h = le-ltb o x h
+  timed-test : (t : Option Timed) (x : ℕ) → OutTo o t x → timed_old i o t x ≡ false
+  timed-test None x h = refl
+  timed-test (Some Reply) x h = le-ltb o x h
+  timed-test (Some Amr) x h = le-ltb o x h
 
-  test-timed : (t : Timed) (x : ℕ) → timed_old i o t x ≡ false → OutTo o t x
-  test-timed Untimed x e = tt
-  test-timed Reply x e = ltb-false o x e
-  test-timed Amr x e = ltb-false o x e
+  test-timed : (t : Option Timed) (x : ℕ) → timed_old i o t x ≡ false → OutTo o t x
+  test-timed None x e = tt
+  test-timed (Some Reply) x e = ltb-false o x e
+  test-timed (Some Amr) x e = ltb-false o x e
 
   held_test : (n : Node) (w : ℕ → ℕ) → ((a : ℕ) → OutTo o (timed_for n a) (w a)) → held_old i o (held_of n) w ≡ false
   held_test n w h = go (uses n.phase) (h al)
@@ -113,10 +113,10 @@ module _ (i o : ℕ) where
       al : ℕ
       al = n.alias.0
 
-      t : Timed
+      t : Option Timed
       t = timed_at n.phase n.waiting.reply
 
-      own : (c : Bool) → c ≡ true → OutTo o (cond c t Untimed) (w al) → timed_old i o t (w al) ≡ false
+      own : (c : Bool) → c ≡ true → OutTo o (cond c t None) (w al) → timed_old i o t (w al) ≡ false
       own true e k = timed-test t (w al) k
       own false e k = absurd (false≢true e)
 

@@ -1,5 +1,5 @@
 -- What the theorems of proofs/Examples.antt speak of; these definitions are to be believed.
-use Rattle.std.specs.Prelude.{◌≡◌, Bool, true, false, cond, List, [], ◌∷◌, map, ℕ, eqb, replicate}
+use Rattle.std.specs.Prelude.{◌≡◌, Bool, true, false, cond, List, [], ◌∷◌, map, ℕ, eqb, replicate, Option, Some}
 use Rattle.node.specs.Rules.{Answer, accepted, refused, Value, done, left, Due, nothing, next, bare, with_id, none_waiting, with_reply, with_amd, with_report, with_error, with_host, off_node, generator, fresh, restart, moved, counted, waits, linked}
 use Rattle.headers.specs.declared.frame.Frame.{Frame}
 use Rattle.node.specs.declared.Node.{Node}
@@ -77,7 +77,7 @@ abbrev pub replying : Node
 replying = waits permitted (with_reply none_waiting true)
 
 abbrev pub host_waiting : Node
-host_waiting = waits permitted (with_host none_waiting (Message 0x5B4 2 0xABCD000000000000))
+host_waiting = waits permitted (with_host none_waiting (Some (Message 0x5B4 2 0xABCD000000000000)))
 
 -- its first frame, which is also a CID with its alias; a message with its alias
 abbrev pub own_cid : Frame
@@ -218,7 +218,7 @@ of_places =
     ∷ makes (alone 3 testing (frame1 ∷ [])) (fail 3) 3 (restart testing) (frame1 ∷ [])
     -- the host frame waits
     ∷ makes (alone 3 permitted (frame1 ∷ [])) (message 3 0x5B4 2 0xABCD000000000000) 3 host_waiting (frame1 ∷ [])
-    ∷ makes (alone 3 permitted (frame1 ∷ [])) (enquiry 3 6 0x0501010101020000) 3 (waits permitted (with_host none_waiting (Enquiry 6 0x0501010101020000))) (frame1 ∷ [])
+    ∷ makes (alone 3 permitted (frame1 ∷ [])) (enquiry 3 6 0x0501010101020000) 3 (waits permitted (with_host none_waiting (Some (Enquiry 6 0x0501010101020000)))) (frame1 ∷ [])
     -- release: Permitted becomes Leaving, waiting frames dropped; its inbox stays
     ∷ makes (alone 3 replying (frame1 ∷ [])) (release 3) 3 (in_state (Leaving Release)) (frame1 ∷ [])
     -- a refusal changes nothing: by 3; by 5, though the place has room
@@ -325,9 +325,9 @@ of_looks =
 
 -- with error report 0 waiting; Permitted in a link state, with an error report waiting
 abbrev pub error0 : Waiting
-error0 = with_error none_waiting Report0
+error0 = with_error none_waiting (Some Report0)
 
-abbrev pub reporting : Link → Error → Node
+abbrev pub reporting : Link → Option Error → Node
 reporting l e = waits (linked permitted l) (with_error none_waiting e)
 
 abbrev pub of_links : List Example
@@ -335,17 +335,17 @@ of_links =
     -- 0 at power-on
     makes (alone 3 (linked permitted BusOff) []) (power_on 3 0x050101010101) 3 testing []
     -- a Permitted node: Error Passive from Error Active, from Bus Off; Error Active from Error Passive, from Bus Off; its inbox stays
-    ∷ makes (alone 3 permitted (frame1 ∷ [])) (link 3 1) 3 (reporting ErrorPassive Report0) (frame1 ∷ [])
-    ∷ makes (alone 3 (linked permitted BusOff) []) (link 3 1) 3 (reporting ErrorPassive Report1) []
-    ∷ makes (alone 3 (linked permitted ErrorPassive) []) (link 3 0) 3 (reporting ErrorActive Report2) []
-    ∷ makes (alone 3 (linked permitted BusOff) []) (link 3 0) 3 (reporting ErrorActive Report3) []
+    ∷ makes (alone 3 permitted (frame1 ∷ [])) (link 3 1) 3 (reporting ErrorPassive (Some Report0)) (frame1 ∷ [])
+    ∷ makes (alone 3 (linked permitted BusOff) []) (link 3 1) 3 (reporting ErrorPassive (Some Report1)) []
+    ∷ makes (alone 3 (linked permitted ErrorPassive) []) (link 3 0) 3 (reporting ErrorActive (Some Report2)) []
+    ∷ makes (alone 3 (linked permitted BusOff) []) (link 3 0) 3 (reporting ErrorActive (Some Report3)) []
     -- entering Bus Off gives none, and what waited stays
     ∷ makes (alone 3 permitted []) (link 3 2) 3 (linked permitted BusOff) []
     ∷ makes (alone 3 (linked permitted ErrorPassive) []) (link 3 2) 3 (linked permitted BusOff) []
-    ∷ makes (alone 3 (reporting ErrorPassive Report0) []) (link 3 2) 3 (reporting BusOff Report0) []
+    ∷ makes (alone 3 (reporting ErrorPassive (Some Report0)) []) (link 3 2) 3 (reporting BusOff (Some Report0)) []
     -- nor does an unchanged state
     ∷ makes (alone 3 permitted []) (link 3 0) 3 permitted []
-    ∷ makes (alone 3 (reporting ErrorPassive Report0) []) (link 3 1) 3 (reporting ErrorPassive Report0) []
+    ∷ makes (alone 3 (reporting ErrorPassive (Some Report0)) []) (link 3 1) 3 (reporting ErrorPassive (Some Report0)) []
     ∷ makes (alone 3 (linked permitted BusOff) []) (link 3 2) 3 (linked permitted BusOff) []
     -- in other states the change is only remembered
     ∷ makes (alone 3 testing []) (link 3 1) 3 (linked testing ErrorPassive) []
@@ -356,22 +356,22 @@ of_links =
     -- and a node that becomes Permitted later has none waiting
     ∷ makes (alone 3 (linked (in_state Reserved) ErrorPassive) []) (send 3) 3 (linked permitted ErrorPassive) []
     -- the report carries the Node ID; once it has left it waits no more
-    ∷ says (alone 3 (reporting ErrorPassive Report0) []) (send 3) (accepted (left (with_id 0x10710263 0x050101010101)))
-    ∷ says (alone 3 (reporting ErrorPassive Report1) []) (send 3) (accepted (left (with_id 0x10711263 0x050101010101)))
-    ∷ says (alone 3 (reporting ErrorActive Report2) []) (send 3) (accepted (left (with_id 0x10712263 0x050101010101)))
-    ∷ says (alone 3 (reporting ErrorActive Report3) []) (send 3) (accepted (left (with_id 0x10713263 0x050101010101)))
-    ∷ makes (alone 3 (reporting ErrorPassive Report0) []) (send 3) 3 (linked permitted ErrorPassive) []
+    ∷ says (alone 3 (reporting ErrorPassive (Some Report0)) []) (send 3) (accepted (left (with_id 0x10710263 0x050101010101)))
+    ∷ says (alone 3 (reporting ErrorPassive (Some Report1)) []) (send 3) (accepted (left (with_id 0x10711263 0x050101010101)))
+    ∷ says (alone 3 (reporting ErrorActive (Some Report2)) []) (send 3) (accepted (left (with_id 0x10712263 0x050101010101)))
+    ∷ says (alone 3 (reporting ErrorActive (Some Report3)) []) (send 3) (accepted (left (with_id 0x10713263 0x050101010101)))
+    ∷ makes (alone 3 (reporting ErrorPassive (Some Report0)) []) (send 3) 3 (linked permitted ErrorPassive) []
     -- it stands after reply RID, AMD and duplicate report and before the host frame
     ∷ shows (alone 3 (waits permitted (with_reply error0 true)) []) 3 (sees 3 0x263 (next (bare 0x10700263)) 0)
     ∷ shows (alone 3 (waits permitted (with_amd error0 true)) []) 3 (sees 3 0x263 (next (with_id 0x10701263 0x050101010101)) 0)
     ∷ shows (alone 3 (waits permitted (with_report error0 true)) []) 3 (sees 3 0x263 (next report) 0)
-    ∷ shows (alone 3 (waits permitted (with_host error0 (Enquiry 0 0))) []) 3 (sees 3 0x263 (next (with_id 0x10710263 0x050101010101)) 0)
-    ∷ makes (alone 3 (waits permitted (with_host error0 (Enquiry 0 0))) []) (send 3) 3 (waits permitted (with_host none_waiting (Enquiry 0 0))) []
+    ∷ shows (alone 3 (waits permitted (with_host error0 (Some (Enquiry 0 0)))) []) 3 (sees 3 0x263 (next (with_id 0x10710263 0x050101010101)) 0)
+    ∷ makes (alone 3 (waits permitted (with_host error0 (Some (Enquiry 0 0)))) []) (send 3) 3 (waits permitted (with_host none_waiting (Some (Enquiry 0 0)))) []
     -- a later one replaces it
-    ∷ makes (alone 3 (reporting ErrorPassive Report0) []) (link 3 0) 3 (reporting ErrorActive Report2) []
+    ∷ makes (alone 3 (reporting ErrorPassive (Some Report0)) []) (link 3 0) 3 (reporting ErrorActive (Some Report2)) []
     -- whatever leaves nothing waiting drops it, and the link state stays: a collision, a release, the duplicate report
-    ∷ makes (alone 3 (reporting ErrorPassive Report0) (own_message ∷ [])) (deliver 3) 3 (linked leaving ErrorPassive) []
-    ∷ makes (alone 3 (reporting ErrorPassive Report0) []) (release 3) 3 (linked (in_state (Leaving Release)) ErrorPassive) []
+    ∷ makes (alone 3 (reporting ErrorPassive (Some Report0)) (own_message ∷ [])) (deliver 3) 3 (linked leaving ErrorPassive) []
+    ∷ makes (alone 3 (reporting ErrorPassive (Some Report0)) []) (release 3) 3 (linked (in_state (Leaving Release)) ErrorPassive) []
     ∷ makes (alone 3 (waits (linked permitted BusOff) (with_report error0 true)) []) (send 3) 3 (linked (in_state Silent) BusOff) []
     -- and so it does through a restart and when a released node rests
     ∷ makes (alone 3 (linked testing BusOff) (own_cid ∷ [])) (deliver 3) 3 (linked (restart testing) BusOff) []
@@ -381,9 +381,9 @@ of_links =
     ∷ says (alone 3 permitted []) (link 3 3) (refused 14)
     ∷ says start (link 24 3) (refused 1)
     ∷ says start (link 23 3) (refused 2)
-    ∷ makes (alone 3 (reporting ErrorPassive Report0) []) (link 3 3) 3 (reporting ErrorPassive Report0) []
+    ∷ makes (alone 3 (reporting ErrorPassive (Some Report0)) []) (link 3 3) 3 (reporting ErrorPassive (Some Report0)) []
     -- it has no age
-    ∷ judges (alone 3 (reporting ErrorPassive Report0) []) no_ages (replicate 41 tick) true
+    ∷ judges (alone 3 (reporting ErrorPassive (Some Report0)) []) no_ages (replicate 41 tick) true
     ∷ []
 
 -- THE DUPLICATE REPORT (A.2)
@@ -403,7 +403,7 @@ of_reports =
     -- it makes the node Silent
     ∷ makes (alone 3 duplicate []) (send 3) 3 (in_state Silent) []
     -- all other frames as before: a message of the host with the field of the report and 002's seven bytes
-    ∷ says (alone 3 (waits permitted (with_host none_waiting (Message 0x15B4 7 0x0101000000020100))) []) (send 3) (accepted (left (record { kind = 0; header = 0x195B4263; len = 7; bytes = 0x0101000000020100 })))
+    ∷ says (alone 3 (waits permitted (with_host none_waiting (Some (Message 0x15B4 7 0x0101000000020100)))) []) (send 3) (accepted (left (record { kind = 0; header = 0x195B4263; len = 7; bytes = 0x0101000000020100 })))
     ∷ []
 
 -- NODE IDS AT POWER-ON (A.6)
@@ -490,12 +490,12 @@ of_choices =
     ∷ chooses (alone 3 replying []) 7 (choose ∷ []) (named 3 ∷ []) 3
     ∷ chooses (alone 3 (waits permitted (with_amd none_waiting true)) []) 7 (choose ∷ []) (named 3 ∷ []) 3
     ∷ chooses (alone 3 duplicate []) 7 (choose ∷ []) (named 3 ∷ []) 3
-    ∷ chooses (alone 3 (reporting ErrorPassive Report0) []) 7 (choose ∷ []) (named 3 ∷ []) 3
-    ∷ chooses (alone 3 (reporting ErrorPassive Report1) []) 7 (choose ∷ []) (named 3 ∷ []) 3
-    ∷ chooses (alone 3 (reporting ErrorActive Report2) []) 7 (choose ∷ []) (named 3 ∷ []) 3
-    ∷ chooses (alone 3 (reporting ErrorActive Report3) []) 7 (choose ∷ []) (named 3 ∷ []) 3
+    ∷ chooses (alone 3 (reporting ErrorPassive (Some Report0)) []) 7 (choose ∷ []) (named 3 ∷ []) 3
+    ∷ chooses (alone 3 (reporting ErrorPassive (Some Report1)) []) 7 (choose ∷ []) (named 3 ∷ []) 3
+    ∷ chooses (alone 3 (reporting ErrorActive (Some Report2)) []) 7 (choose ∷ []) (named 3 ∷ []) 3
+    ∷ chooses (alone 3 (reporting ErrorActive (Some Report3)) []) 7 (choose ∷ []) (named 3 ∷ []) 3
     ∷ chooses (alone 3 host_waiting []) 7 (choose ∷ []) (named 3 ∷ []) 3
-    ∷ chooses (alone 3 (waits permitted (with_host none_waiting (Enquiry 0 0))) []) 7 (choose ∷ []) (named 3 ∷ []) 3
+    ∷ chooses (alone 3 (waits permitted (with_host none_waiting (Some (Enquiry 0 0)))) []) 7 (choose ∷ []) (named 3 ∷ []) 3
     ∷ chooses (alone 3 leaving []) 7 (choose ∷ []) (named 3 ∷ []) 3
     ∷ chooses (alone 3 (in_state (Leaving Release)) []) 7 (choose ∷ []) (named 3 ∷ []) 3
     ∷ chooses (alone 3 (in_state Resting) []) 7 (choose ∷ []) (chose nobody ∷ []) 7

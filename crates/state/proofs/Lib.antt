@@ -1,3 +1,2 @@
--- Laws that the proofs of the crate's functions share, in the order of their use.
+-- Laws that the proofs of the crate's functions share.
 pub mod Tested
-pub mod Errors

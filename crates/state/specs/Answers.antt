@@ -1,32 +1,36 @@
--- The papers' numbers and values for each case of the code's enums.
-use Rattle.std.specs.Prelude.{ℕ, Bool, true, false}
+-- The papers' numbers and values for each case of the code's results and enums.
+use Rattle.std.specs.Prelude.{ℕ, ⊤, Bool, true, false, Option, Some, None, Result}
+use Rattle.headers.specs.Answers.{answer_by}
+use Rattle.headers.specs.declared.frame.Frame.{Frame}
+use Rattle.headers.specs.declared.refusal.Refusal.{Refusal}
 use Rattle.state.specs.Rules.{Answer, accepted, refused, Due, nothing, next, Value, done, left}
-use Rattle.state.specs.declared.Refusal as R
-use Rattle.state.specs.declared.Answer as A
-use Rattle.state.specs.declared.Due as D
+use Rattle.state.specs.declared.Error.{Error}
+use Rattle.state.specs.declared.Error.TheVariants.{Report0, Report1, Report2, Report3}
 
-abbrev pub due_as : D.Due → Due
-due_as D.TheVariants.Nothing = nothing
-due_as (D.TheVariants.Next f) = next f
+abbrev pub due_as : Option Frame → Due
+due_as None = nothing
+due_as (Some f) = next f
 
-abbrev pub refusal_as : R.Refusal → ℕ
-refusal_as R.TheVariants.BadIndex = 1
-refusal_as R.TheVariants.Off = 2
-refusal_as R.TheVariants.BadNodeId = 3
-refusal_as R.TheVariants.NothingDue = 4
-refusal_as R.TheVariants.InboxFull = 5
-refusal_as R.TheVariants.InboxEmpty = 6
-refusal_as R.TheVariants.NotPermitted = 7
-refusal_as R.TheVariants.HostWaiting = 8
-refusal_as R.TheVariants.Malformed = 9
-refusal_as R.TheVariants.BadLinkState = 14
-refusal_as R.TheVariants.NodeIdInUse = 15
-refusal_as R.TheVariants.BadStart = 18
+-- The number of an error report.
+abbrev pub report_as : Error → ℕ
+report_as Report0 = 0
+report_as Report1 = 1
+report_as Report2 = 2
+report_as Report3 = 3
 
-abbrev pub answer_as : A.Answer → Answer Value
-answer_as A.TheVariants.Accepted = accepted done
-answer_as (A.TheVariants.Sent f) = accepted (left f)
-answer_as (A.TheVariants.Refused r) = refused (refusal_as r)
+-- What an event answers that says nothing, a send, and either of them: accepted, a send with the frame that left, or refused.
+abbrev pub done_as : Result ⊤ Refusal → Answer Value
+done_as r = answer_by (λ _. done) r
+
+abbrev pub left_as : Result Frame Refusal → Answer Value
+left_as r = answer_by left r
+
+abbrev pub value_as : Option Frame → Value
+value_as None = done
+value_as (Some f) = left f
+
+abbrev pub answer_as : Result (Option Frame) Refusal → Answer Value
+answer_as r = answer_by value_as r
 
 abbrev pub is_refused : Answer Value → Bool
 is_refused (accepted v) = false

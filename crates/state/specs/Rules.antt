@@ -1,6 +1,6 @@
 -- Document 01, "One node": its states, what waits at it, the frames it sends and what of a frame it asks, each told without the
 -- whole node. This is the file to believe of the crate.
-use Rattle.std.specs.Prelude.{ℕ, ◌+◌, ◌*◌, ◌/◌, ◌%◌, ◌^◌, Bool, true, false, cond, ◌&&◌, [], ◌∷◌, ltb, eqb}
+use Rattle.std.specs.Prelude.{Option, Some, None, ℕ, ◌+◌, ◌*◌, ◌/◌, ◌%◌, ◌^◌, Bool, true, false, cond, ◌&&◌, [], ◌∷◌, ltb, eqb}
 pub use Rattle.headers.specs.Rules.{
   Answer,
   accepted,
@@ -29,11 +29,11 @@ use Rattle.state.specs.declared.Waiting.{Waiting}
 use Rattle.state.specs.declared.Link.{Link}
 use Rattle.state.specs.declared.Link.TheVariants.{ErrorActive, ErrorPassive, BusOff}
 use Rattle.state.specs.declared.Error.{Error}
-use Rattle.state.specs.declared.Error.TheVariants.{NoReport, Report0, Report1, Report2, Report3}
+use Rattle.state.specs.declared.Error.TheVariants.{Report0, Report1, Report2, Report3}
 use Rattle.state.specs.declared.Host.{Host}
-use Rattle.state.specs.declared.Host.TheVariants.{Empty, Message, Enquiry}
+use Rattle.state.specs.declared.Host.TheVariants.{Message, Enquiry}
 use Rattle.state.specs.declared.Timed.{Timed}
-use Rattle.state.specs.declared.Timed.TheVariants.{Untimed, Reply, Amr}
+use Rattle.state.specs.declared.Timed.TheVariants.{Reply, Amr}
 
 -- THE STATES
 
@@ -56,14 +56,14 @@ is_permitted Resting = false
 is_permitted Silent = false
 
 -- Which frame with an age waits at a node: a reply RID, or an AMR.
-abbrev pub timed_at : Phase → (reply : Bool) → Timed
-timed_at Off reply = Untimed
-timed_at (Testing sent ticks) reply = Untimed
-timed_at Reserved reply = cond reply Reply Untimed
-timed_at Permitted reply = cond reply Reply Untimed
-timed_at (Leaving why) reply = Amr
-timed_at Resting reply = Untimed
-timed_at Silent reply = Untimed
+abbrev pub timed_at : Phase → (reply : Bool) → Option Timed
+timed_at Off reply = None
+timed_at (Testing sent ticks) reply = None
+timed_at Reserved reply = cond reply (Some Reply) None
+timed_at Permitted reply = cond reply (Some Reply) None
+timed_at (Leaving why) reply = Some Amr
+timed_at Resting reply = None
+timed_at Silent reply = None
 
 -- The wait, in ticks. The rules that ask for a wait take any.
 abbrev pub wait : ℕ
@@ -73,7 +73,7 @@ wait = 201
 
 -- Of each sort one waits at most.
 abbrev pub none_waiting : Waiting
-none_waiting = record { reply = false; amd = false; report = false; error = NoReport; host = Empty }
+none_waiting = record { reply = false; amd = false; report = false; error = None; host = None }
 
 abbrev pub with_reply : Waiting → Bool → Waiting
 with_reply w b = record { reply = b; amd = w.amd; report = w.report; error = w.error; host = w.host }
@@ -84,23 +84,19 @@ with_amd w b = record { reply = w.reply; amd = b; report = w.report; error = w.e
 abbrev pub with_report : Waiting → Bool → Waiting
 with_report w b = record { reply = w.reply; amd = w.amd; report = b; error = w.error; host = w.host }
 
-abbrev pub with_error : Waiting → Error → Waiting
+abbrev pub with_error : Waiting → Option Error → Waiting
 with_error w e = record { reply = w.reply; amd = w.amd; report = w.report; error = e; host = w.host }
 
-abbrev pub with_host : Waiting → Host → Waiting
+abbrev pub with_host : Waiting → Option Host → Waiting
 with_host w h = record { reply = w.reply; amd = w.amd; report = w.report; error = w.error; host = h }
 
-abbrev pub host_waits : Host → Bool
-host_waits Empty = false
-host_waits (Message field len bytes) = true
-host_waits (Enquiry len bytes) = true
+abbrev pub host_waits : Option Host → Bool
+host_waits None = false
+host_waits (Some h) = true
 
-abbrev pub error_waits : Error → Bool
-error_waits NoReport = false
-error_waits Report0 = true
-error_waits Report1 = true
-error_waits Report2 = true
-error_waits Report3 = true
+abbrev pub error_waits : Option Error → Bool
+error_waits None = false
+error_waits (Some e) = true
 
 -- THE LINK STATE (A.1)
 
@@ -110,11 +106,11 @@ link_of state = cond (eqb state 0) ErrorActive (cond (eqb state 1) ErrorPassive 
 
 -- A Permitted node has error report 0 to 3 waiting as 002, 6.2.7, names the change: which state it enters, and from which. A
 -- later one replaces it. Entering Bus Off and an unchanged state give none.
-abbrev pub error_on : (enters from : Link) → (waiting : Error) → Error
-error_on ErrorPassive ErrorActive e = Report0
-error_on ErrorPassive BusOff e = Report1
-error_on ErrorActive ErrorPassive e = Report2
-error_on ErrorActive BusOff e = Report3
+abbrev pub error_on : (enters from : Link) → (waiting : Option Error) → Option Error
+error_on ErrorPassive ErrorActive e = Some Report0
+error_on ErrorPassive BusOff e = Some Report1
+error_on ErrorActive ErrorPassive e = Some Report2
+error_on ErrorActive BusOff e = Some Report3
 error_on BusOff from e = e
 error_on ErrorActive ErrorActive e = e
 error_on ErrorPassive ErrorPassive e = e
@@ -180,18 +176,18 @@ is_due (next f) = true
 unfoldable pub error_frame : (number id alias : ℕ) → Frame
 error_frame number id a = with_id (sent_header 0 (0x0710 + number) a) id
 
-abbrev pub error_due : Error → (id alias : ℕ) → Due
-error_due NoReport id a = nothing
-error_due Report0 id a = next (error_frame 0 id a)
-error_due Report1 id a = next (error_frame 1 id a)
-error_due Report2 id a = next (error_frame 2 id a)
-error_due Report3 id a = next (error_frame 3 id a)
+abbrev pub error_due : Option Error → (id alias : ℕ) → Due
+error_due None id a = nothing
+error_due (Some Report0) id a = next (error_frame 0 id a)
+error_due (Some Report1) id a = next (error_frame 1 id a)
+error_due (Some Report2) id a = next (error_frame 2 id a)
+error_due (Some Report3) id a = next (error_frame 3 id a)
 
 -- The host frame is type 1 with a message's field and data, or an AME with an enquiry's data.
-abbrev pub host_due : Host → (alias : ℕ) → Due
-host_due Empty a = nothing
-host_due (Message field len bytes) a = next (record { kind = 0; header = sent_header 1 field a; len = len; bytes = bytes })
-host_due (Enquiry len bytes) a = next (record { kind = 0; header = sent_header 0 0x0702 a; len = len; bytes = bytes })
+abbrev pub host_due : Option Host → (alias : ℕ) → Due
+host_due None a = nothing
+host_due (Some (Message field len bytes)) a = next (record { kind = 0; header = sent_header 1 field a; len = len; bytes = bytes })
+host_due (Some (Enquiry len bytes)) a = next (record { kind = 0; header = sent_header 0 0x0702 a; len = len; bytes = bytes })
 
 -- A DELIVERED FRAME
 

@@ -1,7 +1,7 @@
 // The frames that a node sends, by its Node ID and the alias that it has.
-ghost use Rattle.std.specs.Prelude.{◌≡◌, true, ℕ, ◌<◌};
+ghost use Rattle.std.specs.Prelude.{◌≡◌, ◌<◌};
 ghost use Rattle.headers.specs.Answers.{type_of};
-ghost use Rattle.state.specs.Answers.{due_as};
+ghost use Rattle.state.specs.Answers.{due_as, report_as};
 ghost use Rattle.state.specs.Rules.{
   sent_header,
   section_of,
@@ -12,15 +12,13 @@ ghost use Rattle.state.specs.Rules.{
   rid_frame,
   amd_frame,
   amr_frame,
-  next,
   report_frame,
-  error_waits,
   error_frame,
   error_due,
   host_due,
 };
 
-use crate::{Due, Error, Host};
+use crate::{Error, Host};
 use headers::alias::Alias;
 use headers::frame::Frame;
 use headers::header::Type;
@@ -39,7 +37,7 @@ fn bare_frame(header: u32) -> Frame
 {
     Frame {
         kind: 0,
-        header: header,
+        header,
         len: 0,
         bytes: 0,
     }
@@ -51,7 +49,7 @@ fn id_frame(header: u32, id: u64) -> Frame
 {
     Frame {
         kind: 0,
-        header: header,
+        header,
         len: 6,
         bytes: headers::node_id::packed_id(id),
     }
@@ -61,33 +59,26 @@ fn id_frame(header: u32, id: u64) -> Frame
 fn section_of(id: u64, sent: u8) -> Section
     ensures { (result.0 ≡ section_of id sent) × (result.0 < 4096) }
 {
-    if sent < 1 {
-        return Section((id / 0x10_0000_0000 % 4096) as u16);
-    }
-    if sent < 2 {
-        return Section((id / 0x100_0000 % 4096) as u16);
-    }
-    if sent < 3 {
-        return Section((id / 4096 % 4096) as u16);
-    }
-    Section((id % 4096) as u16)
+    let section = match sent {
+        0 => id / 0x10_0000_0000,
+        1 => id / 0x100_0000,
+        2 => id / 4096,
+        _ => id,
+    };
+    Section((section % 4096) as u16)
 }
 
 // The field of that CID: its number, 7 down to 4, and the section.
 fn cid_field(id: u64, sent: u8) -> u16
     ensures { result ≡ cid_field id sent }
 {
-    let s = section_of(id, sent);
-    if sent < 1 {
-        return 0x7000 + s.0;
-    }
-    if sent < 2 {
-        return 0x6000 + s.0;
-    }
-    if sent < 3 {
-        return 0x5000 + s.0;
-    }
-    0x4000 + s.0
+    let number = match sent {
+        0 => 0x7000,
+        1 => 0x6000,
+        2 => 0x5000,
+        _ => 0x4000,
+    };
+    number + section_of(id, sent).0
 }
 
 pub fn cid(id: u64, alias: Alias, sent: u8) -> Frame
@@ -126,54 +117,44 @@ pub fn duplicate_report(alias: Alias) -> Frame
     }
 }
 
-// The number of the error report that waits.
-fn error_number(e: Error) -> u16
-    ensures { (result < 4) × (error_waits e ≡ true → (id a : ℕ) → error_due e id a ≡ next (error_frame result id a)) }
-{
-    match e {
-        Error::NoReport => 0,
-        Error::Report0 => 0,
-        Error::Report1 => 1,
-        Error::Report2 => 2,
-        Error::Report3 => 3,
+impl Error {
+    // Below four: the field of a report has room for it. `From` would not say so.
+    fn number(self) -> u16
+        ensures { (result ≡ report_as self) × (result < 4) }
+    {
+        self as u16
     }
 }
 
-// The error report with this number.
-fn error_report(number: u16, id: u64, alias: Alias) -> Frame
-    requires { number < 4 }
-    ensures { result ≡ error_frame number id alias.0 }
+fn error_report(e: Error, id: u64, alias: Alias) -> Frame
+    ensures { result ≡ error_frame (report_as e) id alias.0 }
 {
-    id_frame(sent_header(Type::Control, 0x0710 + number, alias), id)
+    id_frame(sent_header(Type::Control, 0x0710 + e.number(), alias), id)
 }
 
 // The error report that waits, if one does.
-pub fn error_due(e: Error, id: u64, alias: Alias) -> Due
+pub fn error_due(e: Option<Error>, id: u64, alias: Alias) -> Option<Frame>
     ensures { due_as result ≡ error_due e id alias.0 }
 {
-    if e.is_waiting() {
-        return Due::Next(error_report(error_number(e), id, alias));
-    }
-    Due::Nothing
+    Some(error_report(e?, id, alias))
 }
 
 // The host frame: what the host ordered, if anything.
-pub fn host_due(h: Host, alias: Alias) -> Due
+pub fn host_due(h: Option<Host>, alias: Alias) -> Option<Frame>
     ensures { due_as result ≡ host_due h alias.0 }
 {
-    match h {
-        Host::Empty => Due::Nothing,
-        Host::Message { field, len, bytes } => Due::Next(Frame {
-            kind: 0,
-            header: sent_header(Type::Message, field, alias),
+    let (header, len, bytes) = match h? {
+        Host::Message { field, len, bytes } => (
+            sent_header(Type::Message, field, alias),
             len,
             bytes,
-        }),
-        Host::Enquiry { len, bytes } => Due::Next(Frame {
-            kind: 0,
-            header: sent_header(Type::Control, 0x0702, alias),
-            len,
-            bytes,
-        }),
-    }
+        ),
+        Host::Enquiry { len, bytes } => (sent_header(Type::Control, 0x0702, alias), len, bytes),
+    };
+    Some(Frame {
+        kind: 0,
+        header,
+        len,
+        bytes,
+    })
 }

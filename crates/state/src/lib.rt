@@ -1,24 +1,21 @@
 // Below layer 2: what a node is made of and what it says, each told without the whole node. Here are the types.
 #![tactic(auto)]
 
-pub mod answers;
 pub mod concerns;
 pub mod frames;
 pub mod links;
 pub mod pending;
 pub mod phases;
 
-use headers::frame::Frame;
-
 // Why a node is Leaving.
-#[derive(Clone, Copy)]
+#[derive(Clone, Copy, Debug, PartialEq, Eq)]
 pub enum Reason {
     Collision,
     Release,
 }
 
 // The seven states.
-#[derive(Clone, Copy)]
+#[derive(Clone, Copy, Debug, PartialEq, Eq)]
 pub enum Phase {
     Off,
     // How many CIDs have left, and how many ticks came since the fourth.
@@ -30,88 +27,53 @@ pub enum Phase {
     Silent,
 }
 
-// What the host ordered to be sent, if anything: a message's field and data, or an enquiry's data.
-#[derive(Clone, Copy)]
+// What the host can order to be sent: a message's field and data, or an enquiry's data. The data stand as in a frame: one word, and
+// how many of its bytes count.
+#[derive(Clone, Copy, Debug, PartialEq, Eq)]
 pub enum Host {
-    Empty,
     Message { field: u16, len: u8, bytes: u64 },
     Enquiry { len: u8, bytes: u64 },
 }
 
 // A node's link state, as its host tells it.
-#[derive(Clone, Copy)]
+#[derive(Clone, Copy, Debug, PartialEq, Eq)]
 pub enum Link {
-    ErrorActive,
-    ErrorPassive,
-    BusOff,
+    ErrorActive = 0,
+    ErrorPassive = 1,
+    BusOff = 2,
 }
 
-// The error report that waits, if one does, by the standard's number.
-#[derive(Clone, Copy)]
+// The error reports, by the standard's numbers.
+#[derive(Clone, Copy, Debug, PartialEq, Eq)]
 pub enum Error {
-    NoReport,
-    Report0,
-    Report1,
-    Report2,
-    Report3,
+    Report0 = 0,
+    Report1 = 1,
+    Report2 = 2,
+    Report3 = 3,
 }
 
 // All that waits to be sent, one of each sort at most.
-#[derive(Clone, Copy)]
+#[derive(Clone, Copy, Debug, PartialEq, Eq)]
 pub struct Waiting {
     pub reply: bool,
     pub amd: bool,
     pub report: bool,
-    pub error: Error,
-    pub host: Host,
+    pub error: Option<Error>,
+    pub host: Option<Host>,
 }
 
-// The frame with an age that waits.
-#[derive(Clone, Copy)]
+// The frames with an age.
+#[derive(Clone, Copy, Debug, PartialEq, Eq)]
 pub enum Timed {
-    Untimed,
     Reply,
     Amr,
 }
 
-// The due frame: the one that leaves next.
-#[derive(Clone, Copy)]
-pub enum Due {
-    Nothing,
-    Next(Frame),
-}
-
-// What of a frame concerns a node: nothing, that it has the node's alias (and whether it is a CID), or, under another alias at a
+// What of a frame can concern a node: that it has the node's alias (and whether it is a CID), or, under another alias at a
 // Permitted node, that it is an AME or an AMD.
-#[derive(Clone, Copy)]
+#[derive(Clone, Copy, Debug, PartialEq, Eq)]
 pub enum Concern {
-    Nothing,
     SameAlias(bool),
     Ame,
     Amd,
-}
-
-// The refusals 1 to 9, 14, 15 and 18, in the order of their numbers. A node alone gives those that need no segment.
-#[derive(Clone, Copy)]
-pub enum Refusal {
-    BadIndex,
-    Off,
-    BadNodeId,
-    NothingDue,
-    InboxFull,
-    InboxEmpty,
-    NotPermitted,
-    HostWaiting,
-    Malformed,
-    BadLinkState,
-    NodeIdInUse,
-    BadStart,
-}
-
-// What events answer: accepted, for a send with the frame that left, or one of these refusals.
-#[derive(Clone, Copy)]
-pub enum Answer {
-    Accepted,
-    Sent(Frame),
-    Refused(Refusal),
 }

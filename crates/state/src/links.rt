@@ -1,63 +1,40 @@
 // A node's link state by its number, and the error report that a change of it makes wait.
 ghost use Rattle.std.specs.Prelude.{◌≡◌, ◌<◌};
-ghost use Rattle.state.specs.Rules.{link_of, error_waits, error_on};
+ghost use Rattle.state.specs.Rules.{link_of, error_on};
 
 use crate::{Error, Link};
 
-impl Link {
-    pub fn of(state: u8) -> Link
-        ensures { result ≡ link_of state }
-    {
-        if state == 0 {
-            return Link::ErrorActive;
-        }
-        if state == 1 {
-            return Link::ErrorPassive;
-        }
-        Link::BusOff
-    }
+// Any number above 1 stands for Bus Off; an event refuses those above 2 before.
+impl From<u8> for Link {
+    ghost from_gives = { λ state link. link ≡ link_of state };
 
-    // The number that it comes back from.
-    pub fn number(self) -> u8
-        ensures { (link_of result ≡ self) × (result < 3) }
-    {
-        match self {
-            Link::ErrorActive => 0,
-            Link::ErrorPassive => 1,
-            Link::BusOff => 2,
+    fn from(state: u8) -> Link {
+        match state {
+            0 => Link::ErrorActive,
+            1 => Link::ErrorPassive,
+            _ => Link::BusOff,
         }
     }
 }
 
-impl Error {
-    pub fn is_waiting(self) -> bool
-        ensures { result ≡ error_waits self }
+impl Link {
+    // The number that it comes back from. `From` would say nothing of the range, on which a packed word rests.
+    pub fn number(self) -> u8
+        ensures { (link_of result ≡ self) × (result < 3) }
     {
-        match self {
-            Error::NoReport => false,
-            Error::Report0 => true,
-            Error::Report1 => true,
-            Error::Report2 => true,
-            Error::Report3 => true,
-        }
+        self as u8
     }
 
-    // The one that waits at a Permitted node once its link has entered this state from that one.
-    pub fn after(self, enters: Link, from: Link) -> Error
-        ensures { result ≡ error_on enters from self }
+    // The error report that waits at a Permitted node once its link has entered this state from that one, where `waiting` did.
+    pub fn entered(self, from: Link, waiting: Option<Error>) -> Option<Error>
+        ensures { result ≡ error_on self from waiting }
     {
-        match enters {
-            Link::ErrorPassive => match from {
-                Link::ErrorActive => Error::Report0,
-                Link::BusOff => Error::Report1,
-                Link::ErrorPassive => self,
-            },
-            Link::ErrorActive => match from {
-                Link::ErrorPassive => Error::Report2,
-                Link::BusOff => Error::Report3,
-                Link::ErrorActive => self,
-            },
-            Link::BusOff => self,
+        match (self, from) {
+            (Link::ErrorPassive, Link::ErrorActive) => Some(Error::Report0),
+            (Link::ErrorPassive, Link::BusOff) => Some(Error::Report1),
+            (Link::ErrorActive, Link::ErrorPassive) => Some(Error::Report2),
+            (Link::ErrorActive, Link::BusOff) => Some(Error::Report3),
+            _ => waiting,
         }
     }
 }

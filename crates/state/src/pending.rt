@@ -1,33 +1,14 @@
 // What waits at a node, and what the host may order to wait.
 ghost use Rattle.std.specs.Prelude.{◌≡◌, ◌||◌, eqb};
-ghost use Rattle.state.specs.Rules.{host_waits, none_waiting, with_reply, with_amd, with_report, with_error, with_host};
+ghost use Rattle.state.specs.Rules.{none_waiting, with_reply, with_amd, with_report, with_error, with_host};
 
 use crate::{Error, Host, Waiting};
-
-impl Host {
-    pub fn is_waiting(self) -> bool
-        ensures { result ≡ host_waits self }
-    {
-        match self {
-            Host::Empty => false,
-            Host::Message {
-                field: _,
-                len: _,
-                bytes: _,
-            } => true,
-            Host::Enquiry { len: _, bytes: _ } => true,
-        }
-    }
-}
 
 // Whether an enquiry can have this length.
 pub fn asks(len: u8) -> bool
     ensures { result ≡ (eqb len 0 || eqb len 6) }
 {
-    if len == 0 {
-        return true;
-    }
-    len == 6
+    matches!(len, 0 | 6)
 }
 
 impl Waiting {
@@ -38,55 +19,39 @@ impl Waiting {
             reply: false,
             amd: false,
             report: false,
-            error: Error::NoReport,
-            host: Host::Empty,
+            error: None,
+            host: None,
         }
     }
 
-    pub fn with_reply(mut self, b: bool) -> Waiting
-        ensures { result ≡ with_reply self b }
+    // One for each field: no parameter can stand for the field.
+    pub fn with_reply(self, reply: bool) -> Waiting
+        ensures { result ≡ with_reply self reply }
     {
-        self.reply = b;
-        self
+        Waiting { reply, ..self }
     }
 
-    pub fn with_amd(mut self, b: bool) -> Waiting
-        ensures { result ≡ with_amd self b }
+    pub fn with_amd(self, amd: bool) -> Waiting
+        ensures { result ≡ with_amd self amd }
     {
-        self.amd = b;
-        self
+        Waiting { amd, ..self }
     }
 
-    pub fn with_report(mut self, b: bool) -> Waiting
-        ensures { result ≡ with_report self b }
+    pub fn with_report(self, report: bool) -> Waiting
+        ensures { result ≡ with_report self report }
     {
-        self.report = b;
-        self
+        Waiting { report, ..self }
     }
 
-    pub fn with_error(self, e: Error) -> Waiting
-        ensures { result ≡ with_error self e }
+    pub fn with_error(self, error: Option<Error>) -> Waiting
+        ensures { result ≡ with_error self error }
     {
-        let h = self.host;
-        Waiting {
-            reply: self.reply,
-            amd: self.amd,
-            report: self.report,
-            error: e,
-            host: h,
-        }
+        Waiting { error, ..self }
     }
 
-    pub fn with_host(self, h: Host) -> Waiting
-        ensures { result ≡ with_host self h }
+    pub fn with_host(self, host: Option<Host>) -> Waiting
+        ensures { result ≡ with_host self host }
     {
-        let e = self.error;
-        Waiting {
-            reply: self.reply,
-            amd: self.amd,
-            report: self.report,
-            error: e,
-            host: h,
-        }
+        Waiting { host, ..self }
     }
 }

@@ -12,58 +12,30 @@ impl Phase {
     pub fn is_off(self) -> bool
         ensures { result ≡ is_off self }
     {
-        match self {
-            Phase::Off => true,
-            Phase::Testing(_, _) => false,
-            Phase::Reserved => false,
-            Phase::Permitted => false,
-            Phase::Leaving(_) => false,
-            Phase::Resting => false,
-            Phase::Silent => false,
-        }
+        matches!(self, Phase::Off)
     }
 
     pub fn is_permitted(self) -> bool
         ensures { result ≡ is_permitted self }
     {
-        match self {
-            Phase::Off => false,
-            Phase::Testing(_, _) => false,
-            Phase::Reserved => false,
-            Phase::Permitted => true,
-            Phase::Leaving(_) => false,
-            Phase::Resting => false,
-            Phase::Silent => false,
-        }
+        matches!(self, Phase::Permitted)
     }
 
     // Whether a tick counts: in Testing, from the departure of CID 4 to the wait.
     pub fn counts(self) -> bool
         ensures { result ≡ counts wait self }
     {
-        match self {
-            Phase::Off => false,
-            Phase::Testing(sent, ticks) => { if sent < 4 { false } else { ticks < Phase::WAIT } }
-            Phase::Reserved => false,
-            Phase::Permitted => false,
-            Phase::Leaving(_) => false,
-            Phase::Resting => false,
-            Phase::Silent => false,
-        }
+        matches!(self, Phase::Testing(4.., ticks) if ticks < Phase::WAIT)
     }
 
     // Which frame with an age waits, by whether a reply RID does.
-    pub fn timed(self, reply: bool) -> Timed
+    pub fn timed(self, reply: bool) -> Option<Timed>
         ensures { result ≡ timed_at self reply }
     {
         match self {
-            Phase::Off => Timed::Untimed,
-            Phase::Testing(_, _) => Timed::Untimed,
-            Phase::Reserved => { if reply { Timed::Reply } else { Timed::Untimed } }
-            Phase::Permitted => { if reply { Timed::Reply } else { Timed::Untimed } }
-            Phase::Leaving(_) => Timed::Amr,
-            Phase::Resting => Timed::Untimed,
-            Phase::Silent => Timed::Untimed,
+            Phase::Reserved | Phase::Permitted if reply => Some(Timed::Reply),
+            Phase::Leaving(_) => Some(Timed::Amr),
+            _ => None,
         }
     }
 }

@@ -1,30 +1,20 @@
 -- A choice (A.8): what it has passed over, and whom it names then; and its promise.
 use mathlib.Core.Path.{◌≡◌, refl, sym, ap, ◌∙◌}
-use mathlib.Core.Logic.{◌≢◌, ⊎_elim}
+use mathlib.Core.Logic.{⊎_elim}
 use mathlib.Core.Bool.{Bool, true, false, cond}
 use mathlib.Core.List.{List}
 use Prim.Native.Nat.{ℕ, zero, suc, ◌+◌, ◌-◌, ◌%◌, ◌<◌, ◌≤◌}
 use native.Mathlib.Omega.{arith}
+use Rattle.std.specs.Prelude.{Option, Some, None, MatchOption}
 use Rattle.node.specs.Rules.{done}
 use Rattle.segment_rules.specs.Rules.{places, Segment, choose, Choice, names, nobody, has_due, after, first_due, choice, mark_by, chose}
 use Rattle.table.specs.Words.{place_of, cell_at, mark_of, view}
-use Rattle.table.specs.WordLaws.{lt-or-le, eq-or-ne, view-at, view-mark}
-use Rattle.table.specs.Parts.{Marked, FirstBetween}
+use Rattle.table.specs.WordLaws.{lt-or-le, view-at, view-mark}
+use Rattle.table.specs.declared.place.Place as One
+use Rattle.table.specs.Places.{named}
+use Rattle.table.specs.Parts.{Marked, FirstBetween, NoneDue, FirstIn}
 use Rattle.table.specs.Promise.{SoundWords, Carries, chosen}
 use Rattle.table.proofs.Promised.{accepts-each}
-
--- THE LOOP
-
-module _ (t : List ℕ) (from : ℕ) where
-  -- No node from one index on, before k, has a due frame.
-  abbrev pub PassedTo : (k : ℕ) → Type 0
-  PassedTo k = (q : ℕ) → from ≤ q → q < k → has_due (place_of (cell_at t q)) ≡ false
-
-  pub passed-one : (k : ℕ) → PassedTo k → has_due (place_of (cell_at t k)) ≡ false → PassedTo (k + 1)
-  passed-one k h e q a b = ⊎_elim
-      (λ (s : q ≡ k). ap (λ (i : ℕ). has_due (place_of (cell_at t i))) s ∙ e)
-      (λ (s : q ≢ k). h q a (omega arith))
-      (eq-or-ne q k)
 
 -- WHOM A CHOICE NAMES
 
@@ -44,6 +34,10 @@ skipped S (suc i) n j h none =
     ∙ ap (λ (b : Bool). cond b (names j) (first_due S (i + n) (after j))) (sym (ap (λ (k : ℕ). has_due (S.at k)) here) ∙ none 0 (omega arith))
     ∙ skipped S i n (after j) (omega arith) (λ e l. ap (λ (k : ℕ). has_due (S.at k)) (shift e) ∙ none (suc e) (omega arith))
     ∙ ap (first_due S n) (shift i)
+
+-- none from one index on, before another, has a due frame
+between : {t : List ℕ} (from to : ℕ) → from ≤ to → NoneDue t from to → FirstBetween t from to to
+between from to h N = record { least = h; most = omega arith; passed = N; due = λ l. absurd (omega arith) }
 
 module _ (t : List ℕ) (next : ℕ) (e : next ≡ after (mark_of t)) where
   from_next : choice (view t) ≡ first_due (view t) places next
@@ -97,6 +91,17 @@ module _ (t : List ℕ) (next : ℕ) (e : next ≡ after (mark_of t)) where
       found_none h =
           let all : places ≡ places + 0 = omega arith in
           sym (from_next ∙ ap (λ (m : ℕ). first_due (view t) m next) all ∙ skipped (view t) places 0 next inside (λ d l. none_yet d (omega (arith, inside, G.most, h))))
+
+  -- those from next on, and where none of them has a due frame, those before it
+  pub first-chosen : (o r : Option One.Place) → FirstIn t next places o → MatchOption o (FirstIn t 0 next r) (λ k. r ≡ Some k) → named r ≡ choice (view t)
+  first-chosen (Some k) r F e =
+      ap named e
+      ∙ found_after k.index (record { least = F.least; most = omega (arith, k.inside); passed = F.passed; due = λ h. F.due }) k.inside
+  first-chosen None (Some k) N G =
+      found-round places (between next places (omega (arith, inside)) N) k.index (omega arith)
+      (record { least = omega arith; most = omega (arith, G.most); passed = G.passed; due = λ h. G.due }) (omega (arith, G.most))
+  first-chosen None None N M =
+      found_none places (between next places (omega (arith, inside)) N) next (omega arith) (between 0 next (omega arith) M) (omega arith)
 
 -- THE PROMISE: the mark is where the choice says
 

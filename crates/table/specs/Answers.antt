@@ -1,13 +1,13 @@
--- What looking and a choice answer, in the papers' terms: the number and values for each case of the enums.
-use Rattle.node.specs.Rules.{Answer, accepted, refused}
-use Rattle.state.specs.Answers.{due_as, refusal_as}
+-- What looking and a choice answer, in the papers' terms: the values for each case of the results.
+use Rattle.std.specs.Prelude.{ℕ, Option, Some, None, Result}
+use Rattle.headers.specs.Answers.{answer_by}
+use Rattle.headers.specs.declared.refusal.Refusal.{Refusal}
 use Rattle.headers.specs.declared.frame.Frame.{Frame}
+use Rattle.node.specs.Rules.{Answer}
+use Rattle.state.specs.Answers.{due_as}
 use Rattle.segment_rules.specs.Rules.{Choice, names, nobody}
 use Rattle.segment_rules.specs.Looks.{Seen}
 use Rattle.table.specs.declared.look.Seen as S
-use Rattle.table.specs.declared.look.Looked as L
-use Rattle.table.specs.declared.look.Found as F
-use Rattle.table.specs.declared.turns.Choice as C
 
 abbrev pub seen_as : S.Seen → Seen
 seen_as s = record {
@@ -18,15 +18,13 @@ seen_as s = record {
   count = s.count;
 }
 
-abbrev pub look_as : L.Looked → Answer Seen
-look_as (L.TheVariants.Seen s) = accepted (seen_as s)
-look_as (L.TheVariants.Refused r) = refused (refusal_as r)
+abbrev pub look_as : Result S.Seen Refusal → Answer Seen
+look_as r = answer_by seen_as r
 
-abbrev pub found_as : F.Found → Answer Frame
-found_as (F.TheVariants.Frame f) = accepted f
-found_as (F.TheVariants.Refused r) = refused (refusal_as r)
+abbrev pub found_as : Result Frame Refusal → Answer Frame
+found_as r = answer_by (λ f. f) r
 
 -- A.8: the index, or none.
-abbrev pub choice_as : C.Choice → Choice
-choice_as (C.TheVariants.Names index) = names index
-choice_as C.TheVariants.Nobody = nobody
+abbrev pub choice_as : Option ℕ → Choice
+choice_as (Some index) = names index
+choice_as None = nobody

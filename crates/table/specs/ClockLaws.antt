@@ -1,6 +1,6 @@
 -- Laws of ages as words keep them: by a clock that goes round they are what the rules say, modulo the round; and no frame in
 -- an inbox is older than the one before it.
-use Rattle.std.specs.Prelude.{◌≡◌, refl, Bool, true, false, cond, ◌||◌, List, [], ◌∷◌, ◌++◌, map, ℕ, ◌+◌, ◌%◌, ◌<◌, ◌≤◌, ltb, eqb}
+use Rattle.std.specs.Prelude.{◌≡◌, refl, Bool, true, false, cond, ◌||◌, List, [], ◌∷◌, ◌++◌, map, ℕ, ◌+◌, ◌%◌, ◌<◌, ◌≤◌, ltb, eqb, Option, Some, None}
 use Rattle.std.proofs.Common.{sym, ap, subst, ◌∙◌, arith, eq-eqb, eqb-true}
 use Rattle.std.proofs.lemmas.Bool.{false≢true}
 use Rattle.std.proofs.lemmas.List.{map-append}
@@ -9,7 +9,7 @@ use Rattle.node.proofs.EventLaws.{timed-other}
 use Rattle.headers.specs.declared.frame.Frame.{Frame}
 use Rattle.node.specs.declared.Node.{Node}
 use Rattle.state.specs.declared.Timed.{Timed}
-use Rattle.state.specs.declared.Timed.TheVariants.{Untimed, Reply, Amr}
+use Rattle.state.specs.declared.Timed.TheVariants.{Reply, Amr}
 use Rattle.segment_rules.specs.Rules.{
   places,
   place,
@@ -84,14 +84,14 @@ around-list : (gs : List ℕ) → map (λ x. x % round) (map (λ x. x % round) g
 around-list [] = refl
 around-list (g ∷ gs) = λ j. twice g j ∷ around-list gs j
 
-around-on : (t u : Timed) (x : ℕ) → ages_on t u (x % round) % round ≡ ages_on t u x % round
-around-on Untimed u x = refl
-around-on Reply Untimed x = refl
-around-on Reply Reply x = twice x
-around-on Reply Amr x = refl
-around-on Amr Untimed x = refl
-around-on Amr Reply x = refl
-around-on Amr Amr x = twice x
+around-on : (t u : Option Timed) (x : ℕ) → ages_on t u (x % round) % round ≡ ages_on t u x % round
+around-on None u x = refl
+around-on (Some Reply) None x = refl
+around-on (Some Reply) (Some Reply) x = twice x
+around-on (Some Reply) (Some Amr) x = refl
+around-on (Some Amr) None x = refl
+around-on (Some Amr) (Some Reply) x = refl
+around-on (Some Amr) (Some Amr) x = twice x
 
 ages-eq : {g h : Ages} → g.inbox ≡ h.inbox → ((a : ℕ) → g.waiting a ≡ h.waiting a) → g ≡ h
 ages-eq p q = λ j. ages (p j) (λ a. q a j)
@@ -119,10 +119,10 @@ around-passes d n g = ages-eq (go g.inbox) (λ a. timed (timed_for n a) (g.waiti
     go [] = refl
     go (x ∷ gs) = λ j. shifted x d j ∷ go gs j
 
-    timed : (t : Timed) (x : ℕ) → pass_age d t (x % round) % round ≡ pass_age d t x % round
-    timed Untimed x = twice x
-    timed Reply x = shifted x d
-    timed Amr x = shifted x d
+    timed : (t : Option Timed) (x : ℕ) → pass_age d t (x % round) % round ≡ pass_age d t x % round
+    timed None x = twice x
+    timed (Some Reply) x = shifted x d
+    timed (Some Amr) x = shifted x d
 
 -- ages modulo the round are enough to carry on with
 pub around-step : (S : Segment) (G : ℕ → Ages) (c : Command) → all_around (age_step ticks S (all_around G) c) ≡ all_around (age_step ticks S G c)
@@ -158,10 +158,10 @@ limit-around i o n g h = record { inbox = go g.inbox h.inbox; waiting = λ a. ti
     go [] h = tt
     go (x ∷ gs) h = (omega (arith, h.0), go gs h.1)
 
-    timed : (t : Timed) (x : ℕ) → OutTo o t x → OutTo o t (x % round)
-    timed Untimed x h = tt
-    timed Reply x h = omega arith
-    timed Amr x h = omega arith
+    timed : (t : Option Timed) (x : ℕ) → OutTo o t x → OutTo o t (x % round)
+    timed None x h = tt
+    timed (Some Reply) x h = omega arith
+    timed (Some Amr) x h = omega arith
 
 -- ages below the round are what they are modulo the round
 module _ (b : ℕ) (lo : b < round) where
@@ -169,10 +169,10 @@ module _ (b : ℕ) (lo : b < round) where
   list-around [] h = refl
   list-around (g ∷ gs) h = let e : g % round ≡ g = omega (arith, h.0) in λ j. e j ∷ list-around gs h.1 j
 
-  timed-around : (i o : ℕ) (t : Timed) (x : ℕ) → OutTo b t x → timed_old i o t (x % round) ≡ timed_old i o t x
-  timed-around i o Untimed x h = refl
-  timed-around i o Reply x h = let e : x % round ≡ x = omega arith in ap (ltb o) e
-  timed-around i o Amr x h = let e : x % round ≡ x = omega arith in ap (ltb o) e
+  timed-around : (i o : ℕ) (t : Option Timed) (x : ℕ) → OutTo b t x → timed_old i o t (x % round) ≡ timed_old i o t x
+  timed-around i o None x h = refl
+  timed-around i o (Some Reply) x h = let e : x % round ≡ x = omega arith in ap (ltb o) e
+  timed-around i o (Some Amr) x h = let e : x % round ≡ x = omega arith in ap (ltb o) e
 
   at-around : (i o : ℕ) (n : Node) (g : Ages) → InLimit b b n g → old_at i o n (around g) ≡ old_at i o n g
   at-around i o n g h = λ j. any_old i o (list-around g.inbox h.inbox j) || held-around j
@@ -180,10 +180,10 @@ module _ (b : ℕ) (lo : b < round) where
       al : ℕ
       al = n.alias.0
 
-      t : Timed
+      t : Option Timed
       t = timed_at n.phase n.waiting.reply
 
-      own : (c : Bool) → c ≡ true → OutTo b (cond c t Untimed) (g.waiting al) → timed_old i o t (g.waiting al % round) ≡ timed_old i o t (g.waiting al)
+      own : (c : Bool) → c ≡ true → OutTo b (cond c t None) (g.waiting al) → timed_old i o t (g.waiting al % round) ≡ timed_old i o t (g.waiting al)
       own true e k = timed-around i o t (g.waiting al) k
       own false e k = absurd (false≢true e)
 
@@ -245,4 +245,4 @@ module _ (b : ℕ) where
     where
       go : (a : ℕ) (c : Bool) → eqb x.node.alias.0 a ≡ c → OutTo b (timed_for x.node a) (x.age a)
       go a true e = out-any b (timed_for x.node a) (x.age a) (let q : x.age x.node.alias.0 ≡ x.age a = ap x.age (eqb-true _ a e) in omega arith)
-      go a false e = subst (λ (t : Timed). OutTo b t (x.age a)) (timed-other x.node a e) tt
+      go a false e = subst (λ (t : Option Timed). OutTo b t (x.age a)) (timed-other x.node a e) tt

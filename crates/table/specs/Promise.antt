@@ -2,8 +2,6 @@
 use Rattle.std.specs.Prelude.{◌≡◌, false, ◌||◌, List, [], ◌∷◌, map, ℕ, ◌-◌, ◌%◌, ◌<◌, ◌≤◌}
 use Rattle.node.specs.Rules.{Answer, accepted, refused, Value, done}
 use Rattle.node.specs.declared.Generator.{Generator}
-use Rattle.state.specs.Answers.{answer_as}
-use Rattle.state.specs.declared.Answer as A
 use Rattle.segment_rules.specs.Rules.{places, limit, Command, Choice, plain, chose, whether, given, Told, told, step, Ages, ages, age_step, ticks, old}
 use Rattle.segment_rules.specs.Limits.{InLimit}
 use Rattle.pack.specs.Words.{round}
@@ -61,5 +59,5 @@ chosen x = record { answer = accepted done; besides = chose x }
 abbrev pub read : Answer Generator → Told
 read a = record { answer = whether a; besides = given a }
 
-abbrev pub Does : Command → List ℕ → A.Answer → List ℕ → Type 0
-Does c t a t' = Tells c t (plainly (answer_as a)) t'
+abbrev pub Does : Command → List ℕ → Answer Value → List ℕ → Type 0
+Does c t a t' = Tells c t (plainly a) t'

@@ -1,6 +1,7 @@
 -- Laws of hexadecimal digits: byte by byte, how many, the first of them, and by shifts.
 use Rattle.std.specs.Prelude.{◌≡◌, refl, ℕ, zero, suc, ◌+◌, ◌-◌, ◌*◌, ◌/◌, ◌%◌, ◌^◌, ◌≤◌, ◌<◌, List, [], ◌∷◌, ◌++◌, length, take}
 use Rattle.std.proofs.Common.{ap, sym, ◌∙◌, append_assoc, arith, add-zero, add-suc, div-one, length-append, shr-shr, take_all}
+use Rattle.std.proofs.Math.Nat.{div-eq_of_lt, pow-le-pow_right}
 use Rattle.std.proofs.lemmas.List.{take-append-le}
 use Rattle.text.specs.Rules.{digit, hex, without}
 use Rattle.text.specs.Table.{table_of}
@@ -67,12 +68,41 @@ hex-word n =
     let b : n / 0x10000 ≡ n / 0x100 / 256 = omega arith in
     rw (a, hex-bytes 2 (n / 0x10000) (λ z. omega (arith, z)), b, hex-bytes 3 (n / 0x100) (λ z. omega (arith, z))) (hex-bytes 4 n (λ z. omega (arith, z)))
 
-without-shift : (k n : ℕ) → n / 2 ^ (4 * k) ≡ without k n
+pub without-shift : (k n : ℕ) → n / 2 ^ (4 * k) ≡ without k n
 unfolding without
 without-shift zero n = div-one n
 without-shift (suc k) n =
     let e : 4 * suc k ≡ 4 + 4 * k = omega arith in
     rw e (sym (shr-shr n 4 (4 * k)) ∙ without-shift k (n / 16))
+
+-- A number of sixteen digits has no more.
+pub without-all : (k n : ℕ) → 16 ≤ k → n < 2 ^ 64 → without k n ≡ 0
+without-all k n h b =
+    let p : 2 ^ 64 ≤ 2 ^ (4 * k) = pow-le-pow_right {n = 2} (omega arith) {i = 64} (omega arith) in
+    sym (without-shift k n) ∙ div-eq_of_lt (omega arith)
+
+-- The digits byte by byte, the last ones so far being those of the number without its last j bytes.
+without-byte : (j n : ℕ) → without (2 * suc j) n ≡ without (2 * j) n / 256
+without-byte j n =
+    let e : 4 * (2 * suc j) ≡ 4 * (2 * j) + 8 = omega arith in
+    sym (without-shift (2 * suc j) n) ∙ rw e (sym (shr-shr n (4 * (2 * j)) 8) ∙ ap (λ (m : ℕ). m / 256) (without-shift (2 * j) n))
+
+pub without-bytes : (j n : ℕ) → n / 2 ^ (8 * j) ≡ without (2 * j) n
+without-bytes j n = let e : 8 * j ≡ 4 * (2 * j) = omega arith in rw e (without-shift (2 * j) n)
+
+pub hex-down : (bytes j n : ℕ) → 0 < j → j ≤ bytes
+    → hex (2 * (bytes - j)) (without (2 * j) n) ++ hex 2 (without (2 * (j - 1)) n) ≡ hex (2 * (bytes - (j - 1))) (without (2 * (j - 1)) n)
+hex-down bytes zero n h g = absurd (omega (arith, h))
+hex-down bytes (suc j) n h g =
+    let d : suc j - 1 ≡ j = omega arith in
+    let e : bytes - suc j ≡ bytes - j - 1 = omega arith in
+    rw (d, e, without-byte j n) (hex-bytes (bytes - j) (without (2 * j) n) (λ z. omega (arith, z)))
+
+pub hex-all : (bytes j n : ℕ) → j ≡ 0 → hex (2 * (bytes - j)) (without (2 * j) n) ≡ hex (2 * bytes) n
+hex-all bytes j n e =
+    let d : bytes - j ≡ bytes = omega arith in
+    let f : 2 * j ≡ 0 = omega arith in
+    rw (d, without-none n f)
 
 pub first-bytes : (k n : ℕ) → k ≤ 8 → take (2 * k) (hex 16 n) ≡ hex (2 * k) (n / 2 ^ (64 - 8 * k))
 first-bytes k n h =

@@ -1,5 +1,6 @@
 -- What is written of numbers, and what a buffer holds that text is put into. This is the file to believe of the crate.
 use Rattle.std.specs.Prelude.{◌≡◌, ℕ, zero, suc, ◌+◌, ◌/◌, ◌%◌, ◌≤◌, min, cond, List, [], ◌∷◌, ◌++◌, ltb, length, set, take, drop}
+use Rattle.text.specs.declared.buffer.Sheet as S
 
 -- THE DIGITS, as bytes
 
@@ -53,6 +54,14 @@ write s (b ∷ bs) = write (put1 s b) bs
 -- t is s with xs written on it.
 pub record Wrote (s : Sheet) (xs : List ℕ) (t : Sheet) : Type 0 where
   pub is : t ≡ write s xs
+
+-- The code's sheet stays on the buffer that it was made on, and xs are written on it.
+abbrev pub sheet_of : S.Sheet → Sheet
+sheet_of s = sheet s.out.now s.at
+
+pub record Puts (s : S.Sheet) (xs : List ℕ) (t : S.Sheet) : Type 0 where
+  pub same : t.out.ghost_name ≡ s.out.ghost_name
+  pub wrote : Wrote (sheet_of s) xs (sheet_of t)
 
 -- A BUFFER that the text is put into from its start on: as much of the text as it has room for, then what was there; and how
 -- many of its bytes are text.

@@ -1,25 +1,35 @@
-// Bytes, put into a lent buffer at a place. What finds no room is dropped, and the place stays at the end.
-ghost use Rattle.std.specs.Prelude.{[], ◌∷◌};
-ghost use Rattle.text.specs.Rules.{sheet, Wrote};
+// A sheet: a lent buffer, and the place in it of the next byte. What finds no room is dropped, and the place stays at the end.
+ghost use Rattle.std.specs.Prelude.{◌≡◌, [], ◌∷◌};
+ghost use Rattle.text.specs.Rules.{Puts};
 
-pub fn put(out: &mut [u8], at: usize, b: u8) -> usize
-    ensures { Wrote (sheet out.old at) (b ∷ []) (sheet out.new result) }
-{
-    if at < out.len() {
-        out[at] = b;
-        return at + 1;
-    }
-    at
+#[derive(Drop)]
+pub struct Sheet<'a> {
+    pub out: &'a mut [u8],
+    pub at: usize,
 }
 
-pub fn put_all(out: &mut [u8], at: usize, bytes: &[u8]) -> usize
-    ensures { Wrote (sheet out.old at) bytes.now (sheet out.new result) }
-{
-    let mut place = at;
-    let mut i = 0;
-    while i < bytes.len() {
-        place = put(out, place, bytes[i]);
-        i += 1;
+impl<'a> Sheet<'a> {
+    // At the start of a buffer.
+    pub fn new(out: &'a mut [u8]) -> Self
+        ensures { result ≡ record { out = out.entry; at = 0 } }
+    {
+        Sheet { out, at: 0 }
     }
-    place
+
+    pub fn put(&mut self, b: u8)
+        ensures { Puts self.old (b ∷ []) self.new }
+    {
+        if self.at < self.out.len() {
+            self.out[self.at] = b;
+            self.at += 1;
+        }
+    }
+
+    pub fn put_all(&mut self, bytes: &[u8])
+        ensures { Puts self.old bytes.now self.new }
+    {
+        for &b in bytes {
+            self.put(b);
+        }
+    }
 }

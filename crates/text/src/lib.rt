@@ -2,6 +2,6 @@
 #![tactic(auto)]
 
 pub mod buffer;
-pub mod decimal;
-pub mod digits;
+mod decimal;
+mod digits;
 pub mod hex;

@@ -1,9 +1,6 @@
--- The place stays within the corpus, and each script moves it on.
-use Rattle.std.proofs.Common.{length, ◌-◌, ◌≤◌}
+-- Each script makes the rest of the corpus shorter.
+use Rattle.std.proofs.Common.{length}
 use Rattle.replay.proofs.replay.Given as goal
 
-abbrev pub invariant-loop-at : goal.invariant-loop-at
-invariant-loop-at g l = l.at ≤ length l.s
-
-abbrev pub decreases-loop-at : goal.decreases-loop-at
-decreases-loop-at g l = length l.s - l.at
+abbrev pub decreases-loop-length : goal.decreases-loop-length
+decreases-loop-length g l = length l.rest

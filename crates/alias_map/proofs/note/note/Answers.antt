@@ -1,7 +1,4 @@
-use mathlib.Core.Path.{sym, ap, ◌∙◌}
-use native.Mathlib.Omega.{arith}
-use borrow.Author.Rules.{rules}
-use borrow.Author.Tests.{eq-eqb, ne_eqb}
+use Rattle.std.proofs.Common.{rules, arith, sym, ap, ◌∙◌, eq-eqb, ne_eqb}
 use Rattle.headers.specs.Rules.{Parts}
 use Rattle.alias_map.specs.Rules.{note}
 use Rattle.alias_map.proofs.Sound.{notes}
@@ -10,7 +7,7 @@ use Rattle.alias_map.proofs.note.note.Goals as goal
 
 pub returns-then-is_malformed : goal.returns-then-is_malformed
 unfolding note
-returns-then-is_malformed c = notes _ _ _ _ (search rules) (simp (sym c.is_malformed.ensures ∙ c.if-is_malformed.true) (malformed-still _))
+returns-then-is_malformed c = notes _ _ _ _ (search rules) (simp (sym c.if-is_malformed.ensures) (malformed-still _))
 
 pub returns-then-f-eq0 : goal.returns-then-f-eq0
 unfolding note
@@ -18,10 +15,10 @@ returns-then-f-eq0 c = notes _ _ _ _ (search rules)
     (simp (
       sym (ap (λ (p : Parts). p.kind) c.parts_of-p.ensures),
       eq-eqb c.args.f.kind 0 (omega arith),
-      sym c.is_malformed.ensures ∙ c.if-is_malformed.false,
-      sym (c.word_of-w.ensures ∙ in_frame _ _ _ _ (ap (λ (p : Parts). p.alias) c.parts_of-p.ensures) c.id_in.ensures (search rules)),
+      sym c.if-is_malformed.ensures,
+      sym (c.word_of.ensures ∙ in_frame _ _ _ _ (ap (λ (p : Parts). p.alias) c.parts_of-p.ensures) c.id_in.ensures (search rules)),
     ) c.note_kind.ensures)
 
 pub returns : goal.returns
 unfolding note
-returns c = notes _ _ _ _ (search rules) (simp (ne_eqb _ _ c.if-f-eq0.false, sym c.is_malformed.ensures ∙ c.if-is_malformed.false) (unchanged _))
+returns c = notes _ _ _ _ (search rules) (simp (ne_eqb _ _ c.if-f-eq0.false, sym c.if-is_malformed.ensures) (unchanged _))

@@ -1,4 +1,8 @@
-use Rattle.alias_map.specs.Rules.{note_kind}
+use Rattle.std.proofs.Common.{◌≡◌, refl, ℕ, List}
+use Rattle.headers.specs.Answers.{kind_as}
+use Rattle.headers.specs.declared.header.Kind as K
+use Rattle.alias_map.specs.Rules.{accepted, note_kind}
+use Rattle.alias_map.specs.declared.entry.Entry.{Entry}
 use Rattle.alias_map.proofs.Given.{unchanged}
 use Rattle.alias_map.proofs.note.note_kind.Goals as goal
 
@@ -8,28 +12,19 @@ returns-in-Amd c = simp c.in-Amd.is c.define.ensures
 
 pub returns-in-Amr : goal.returns-in-Amr
 unfolding note_kind
-returns-in-Amr c = simp (c.in-Amr.is, ← c.entry_in-e.ensures) c.reset.ensures
+returns-in-Amr c = simp (c.in-Amr.is, ← c.entry_in.ensures) c.reset.ensures
 
-pub returns-in-Cid : goal.returns-in-Cid
+other : (k : K.Kind) (es : List Entry) (len : ℕ) (n : Entry) → (k ≡ K.TheVariants.Amd → ⊥) → (k ≡ K.TheVariants.Amr → ⊥)
+    → note_kind (kind_as k) es len n ≡ accepted es
 unfolding note_kind
-returns-in-Cid c = simp c.in-Cid.is (unchanged _)
+other K.TheVariants.Amd es len n d r = absurd (d refl)
+other K.TheVariants.Amr es len n d r = absurd (r refl)
+other (K.TheVariants.Cid number section) es len n d r = refl
+other K.TheVariants.Rid es len n d r = refl
+other K.TheVariants.Ame es len n d r = refl
+other (K.TheVariants.ErrorReport number) es len n d r = refl
+other K.TheVariants.Reserved es len n d r = refl
+other K.TheVariants.Message es len n d r = refl
 
-pub returns-in-Rid : goal.returns-in-Rid
-unfolding note_kind
-returns-in-Rid c = simp c.in-Rid.is (unchanged _)
-
-pub returns-in-Ame : goal.returns-in-Ame
-unfolding note_kind
-returns-in-Ame c = simp c.in-Ame.is (unchanged _)
-
-pub returns-in-ErrorReport : goal.returns-in-ErrorReport
-unfolding note_kind
-returns-in-ErrorReport c = simp c.in-ErrorReport.is (unchanged _)
-
-pub returns-in-Reserved : goal.returns-in-Reserved
-unfolding note_kind
-returns-in-Reserved c = simp c.in-Reserved.is (unchanged _)
-
-pub returns-in-Message : goal.returns-in-Message
-unfolding note_kind
-returns-in-Message c = simp c.in-Message.is (unchanged _)
+pub returns-in_default : goal.returns-in_default
+returns-in_default c = rw (other c.args.kind _ _ _ c.in_default.not-Amd c.in_default.not-Amr) (unchanged _)

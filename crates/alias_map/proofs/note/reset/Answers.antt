@@ -1,14 +1,14 @@
+use Rattle.std.proofs.Common.{rules, arith}
+use Rattle.alias_map.specs.Rules.{has_alias}
 use Rattle.alias_map.proofs.Given.{gives_none, gives-fewer}
 use Rattle.alias_map.proofs.note.reset.Goals as goal
 
-pub find-i-requires : goal.find-i-requires
-find-i-requires c = c.len-n.ensures.most
+pub returns-in-Some : goal.returns-in-Some
+returns-in-Some c =
+    let f = c.in-Some.ensures.first (has_alias c.args.alias.0) (λ w b h. search rules) in
+    let r = c.remove-others.ensures.rest (has_alias c.args.alias.0) (λ w b h. search rules) in
+    gives-fewer _ _ c.len-n.ensures _ _ f _ _ r c.in-Some.ensures.within
 
-pub remove-others-requires : goal.remove-others-requires
-remove-others-requires c = (c.find-i.ensures.most, c.len-n.ensures.most)
-
-pub returns-then-i-n : goal.returns-then-i-n
-returns-then-i-n c = gives-fewer _ _ c.len-n.ensures _ _ c.find-i.ensures _ _ c.remove-others.ensures c.if-i-n.true
-
-pub returns-else-i-n : goal.returns-else-i-n
-returns-else-i-n c = gives_none _ _ c.len-n.ensures _ _ c.find-i.ensures c.if-i-n.false
+pub returns-in_default : goal.returns-in_default
+returns-in_default c =
+    gives_none _ _ c.len-n.ensures _ _ (c.in_default.ensures.first (has_alias c.args.alias.0) (λ w b h. search rules)) (omega arith)

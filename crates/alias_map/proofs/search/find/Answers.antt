@@ -1,32 +1,28 @@
-use mathlib.Core.Path.{refl, subst}
-use native.Mathlib.Omega.{arith}
-use Rattle.alias_map.specs.Answers.{key_as}
-use Rattle.alias_map.proofs.Places.{tells, AtRow, InRow, starts-row, goes_on, ends-row, found_none, found-hit}
+use Rattle.std.proofs.Common.{arith, subst}
+use Rattle.alias_map.specs.Parts.{Before}
+use Rattle.alias_map.proofs.Places.{told, before_more, found_none, found-hit}
+use Rattle.alias_map.proofs.search.find.Goals.{then-i-n, else-i-n}
 use Rattle.alias_map.proofs.search.find.Goals as goal
 
-pub loop-row-init : goal.loop-row-init
-loop-row-init c = ((c.requires, refl, λ k h. absurd (omega arith)), omega arith)
+pub returns-then-is-clause-first : goal.returns-then-is-clause-first
+returns-then-is-clause-first g c p h =
+    let here = told g.F.Fn c.args.is p _ h c.entry_in.ensures c.is.ensures c.if-is.true in
+    let before = c.loop-i.invariant p h in
+    elim c.if-i-n.branch [
+      | then-i-n w ↦ rw w.result-is (found-hit p c.args.map.now _ _ w.if-i-n.true before here)
+      | else-i-n w ↦ rw w.result-is (found_none p c.args.map.now _ _ w.if-i-n.false before)
+    ]
 
-pub returns-then-n-row : goal.returns-then-n-row
-returns-then-n-row c = found_none _ _ _ _ c.if-n-row.true c.loop-row.invariant.0.2
-
-pub loop-j-init : goal.loop-j-init
-loop-j-init c = subst (InRow (key_as c.args.key) c.args.map.now _ _ _) (omega arith) (starts-row (key_as c.args.key) c.args.map.now _ _ c.if-n-row.false c.loop-row.invariant.0)
-
-pub returns-then-i-n : goal.returns-then-i-n
-returns-then-i-n c = found-hit _ _ _ _ c.if-i-n.true c.loop-j.invariant.4
-    (tells (key_as c.args.key) _ c.has.ensures c.entry_in-e.ensures c.if-has.true)
-
-pub returns-then-has : goal.returns-then-has
-returns-then-has c = found_none _ _ _ _ c.if-i-n.false c.loop-j.invariant.4
-
-pub loop-j-preserved : goal.loop-j-preserved
-loop-j-preserved c = subst (InRow (key_as c.args.key) c.args.map.now _ _ _) (omega arith) (goes_on (key_as c.args.key) c.args.map.now _ _ _ _ c.loop-j-test.true
-    (tells (key_as c.args.key) _ c.has.ensures c.entry_in-e.ensures c.if-has.false)
-    c.loop-j.invariant)
+pub loop-i-preserved : goal.loop-i-preserved
+loop-i-preserved g c p h =
+    before_more p c.args.map.now _ (c.loop-i.invariant p h) (told g.F.Fn c.args.is p _ h c.entry_in.ensures c.is.ensures c.if-is.false)
 
 pub loop-row-preserved : goal.loop-row-preserved
-loop-row-preserved c = (subst (AtRow (key_as c.args.key) c.args.map.now _) (omega (arith, c.loop-j.invariant.2)) (ends-row (key_as c.args.key) c.args.map.now _ _ _ _ c.loop-j-test.false c.loop-j.invariant), omega (arith, c.loop-j.invariant.1))
+loop-row-preserved g c = record {
+  whole = omega (arith, c.loop-row.invariant.whole);
+  within = omega (arith, c.loop-row.invariant.whole);
+  before = λ p h. subst (Before p c.args.map.now) (omega arith) (c.loop-i.invariant p h);
+}
 
-pub returns : goal.returns
-returns c = found_none _ _ _ _ (omega (arith, c.loop-row.invariant.0.0)) c.loop-row.invariant.0.2
+pub returns-clause-first : goal.returns-clause-first
+returns-clause-first g c p h = found_none p c.args.map.now _ _ c.loop-row-test.false (c.loop-row.invariant.before p h)

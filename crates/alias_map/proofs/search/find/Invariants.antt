@@ -1,16 +1,19 @@
-use Prim.Native.Nat.{◌+◌, ◌*◌, ◌-◌, ◌≤◌}
-use Rattle.alias_map.specs.Answers.{key_as}
-use Rattle.alias_map.proofs.Places.{AtRow, InRow}
+-- A row is a whole one, and none of the entries that were compared is looked for.
+use Rattle.std.proofs.Common.{◌≡◌, ◌-◌, ◌%◌, ◌≤◌, Bool}
+use Rattle.alias_map.specs.Rules.{room}
+use Rattle.alias_map.specs.Parts.{Tests, Before}
+use Rattle.alias_map.specs.declared.entry.Entry.{Entry}
 use Rattle.alias_map.proofs.search.find.Given as goal
 
-abbrev pub invariant-loop-j : goal.invariant-loop-j
-invariant-loop-j l = InRow (key_as l.key) l.map l.n (8 * l.row) l.j (8 * l.row + l.j)
-
-abbrev pub decreases-loop-j : goal.decreases-loop-j
-decreases-loop-j l = 8 - l.j
-
 abbrev pub invariant-loop-row : goal.invariant-loop-row
-invariant-loop-row l = AtRow (key_as l.key) l.map l.n (8 * l.row) × (l.row ≤ 8)
+invariant-loop-row g l = record {
+  whole : l.row % 8 ≡ 0;
+  within : l.row ≤ room;
+  before : (p : Entry → Bool) → Tests g.F.Fn l.is p → Before p l.map l.row;
+}
 
 abbrev pub decreases-loop-row : goal.decreases-loop-row
-decreases-loop-row l = 8 - l.row
+decreases-loop-row g l = room - l.row
+
+abbrev pub invariant-loop-i : goal.invariant-loop-i
+invariant-loop-i g l = (p : Entry → Bool) → Tests g.F.Fn l.is p → Before p l.map l.i

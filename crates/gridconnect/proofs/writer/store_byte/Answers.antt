@@ -6,4 +6,4 @@ use Rattle.text.specs.Hex.{hex-byte}
 use Rattle.gridconnect.proofs.writer.store_byte.Goals as goal
 
 pub returns : goal.returns
-returns c = placed (alike (then c.store.ensures c.store-2.ensures) ((λ i. c.last_digit-high.ensures i ∷ c.last_digit-low.ensures i ∷ []) ∙ hex-byte _)) (omega arith)
+returns c = placed (alike (then c.store.ensures c.store-2.ensures) ((λ i. c.last_digit.ensures i ∷ c.last_digit-2.ensures i ∷ []) ∙ hex-byte _)) (omega arith)

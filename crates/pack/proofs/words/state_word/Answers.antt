@@ -1,6 +1,18 @@
 use mathlib.Core.Path.{refl}
-use Rattle.pack.proofs.Packed.{state-of}
+use native.Mathlib.Omega.{arith}
+use Rattle.pack.proofs.Packed.{bit-back, state-of}
 use Rattle.pack.proofs.words.state_word.Goals as goal
 
 pub returns : goal.returns
-returns c = state-of c.args.n _ _ _ _ _ _ _ _ _ _ c.wide16-a.ensures c.bit-r.ensures c.bit-m.ensures c.bit-o.ensures c.error_word-e.ensures c.number.ensures c.wide8-l.ensures c.bit-f.ensures c.phase_word-p.ensures refl
+returns c = let n = c.args.n in
+    state-of n _ _ _ _ _ _ _ _ _ _
+    (c.from.ensures, omega arith)
+    (bit-back _ _ c.from-2.ensures)
+    (bit-back _ _ c.from-3.ensures)
+    (bit-back _ _ c.from-4.ensures)
+    c.error_word.ensures
+    c.number.ensures
+    (c.from-5.ensures, omega (arith, c.number.ensures.1))
+    (bit-back _ _ c.from-6.ensures)
+    c.phase_word.ensures
+    refl

@@ -1,18 +1,21 @@
+use Rattle.std.proofs.Common.{refl, sym, arith}
 use Rattle.script.proofs.Forms.{reads_end, reads-unknown, reads-cut, reads_whole, has-whole}
-use mathlib.Core.Path.{sym}
 use Rattle.script.proofs.command.read_command.Goals as goal
 
-pub returns-then-have-eq0 : goal.returns-then-have-eq0
-returns-then-have-eq0 c = sym (reads_end c.args.rest.now c.if-have-eq0.true)
+pub returns-in_default : goal.returns-in_default
+returns-in_default c = sym (reads_end c.args.rest.now (omega (arith, c.in_default.len_below)))
 
-pub returns-then-took-eq0 : goal.returns-then-took-eq0
-returns-then-took-eq0 c = sym (reads-unknown c.args.rest.now c.if-have-eq0.false _ c.size_of-took.ensures c.if-took-eq0.true)
+pub returns-in_default-size_of : goal.returns-in_default-size_of
+returns-in_default-size_of c = sym (reads-unknown c.args.rest.now (λ e. omega (arith, e, c.in-len1-up.len_at_least)) _ c.in_default-size_of.ensures.takes refl)
 
-pub returns-then-have-took : goal.returns-then-have-took
-returns-then-have-took c = sym (reads-cut c.args.rest.now c.if-have-eq0.false _ c.size_of-took.ensures c.if-took-eq0.false c.if-have-took.true)
+pub returns-then-rest-took : goal.returns-then-rest-took
+returns-then-rest-took c =
+    sym (reads-cut c.args.rest.now (λ e. omega (arith, e, c.in-len1-up.len_at_least)) _ c.in-Some.ensures.takes (λ e. omega (arith, e, c.in-Some.ensures.some)) c.if-rest-took.true)
 
-pub command_of-command-requires : goal.command_of-command-requires
-command_of-command-requires c = has-whole c.args.rest.now c.if-have-eq0.false _ c.size_of-took.ensures c.if-took-eq0.false c.if-have-took.false
+pub command_of-requires : goal.command_of-requires
+command_of-requires c =
+    has-whole c.args.rest.now (λ e. omega (arith, e, c.in-len1-up.len_at_least)) _ c.in-Some.ensures.takes (λ e. omega (arith, e, c.in-Some.ensures.some)) c.if-rest-took.false
 
 pub returns : goal.returns
-returns c = sym (reads_whole c.args.rest.now c.if-have-eq0.false _ c.size_of-took.ensures c.if-took-eq0.false c.if-have-took.false c.command_of-command.ensures)
+returns c =
+    sym (reads_whole c.args.rest.now (λ e. omega (arith, e, c.in-len1-up.len_at_least)) _ c.in-Some.ensures.takes (λ e. omega (arith, e, c.in-Some.ensures.some)) c.if-rest-took.false c.command_of.ensures)

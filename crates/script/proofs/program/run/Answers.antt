@@ -1,5 +1,6 @@
-use Rattle.script.proofs.Turns.{through-printed}
+use Rattle.std.proofs.Common.{rules}
+use Rattle.script.proofs.Turns.{ended-printed}
 use Rattle.script.proofs.program.run.Goals as goal
 
 pub returns : goal.returns
-returns c = through-printed _ _ _ _ _ _ _ _ c.run_through-run.ensures c.is_late-late.ensures c.put_last.ensures
+returns c = ended-printed c.run_through.ensures c.is_late.ensures c.put_last.ensures (search rules) (search rules)

@@ -7,6 +7,6 @@ pub returns-then-f-eq6 : goal.returns-then-f-eq6
 unfolding is_own
 returns-then-f-eq6 c = simp (c.id_in.ensures, eq-eqb _ _ c.if-f-eq6.true) refl
 
-pub returns : goal.returns
+pub returns-else-f-eq6 : goal.returns-else-f-eq6
 unfolding is_own
-returns c = simp (ne_eqb _ _ c.if-f-eq6.false)
+returns-else-f-eq6 c = simp (ne_eqb _ _ c.if-f-eq6.false)

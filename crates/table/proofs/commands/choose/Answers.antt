@@ -1,14 +1,16 @@
-use mathlib.Core.Path.{refl, sym, ap, subst, ◌∙◌}
+use Rattle.std.proofs.Common.{rules, ◌≡◌, refl, sym, ap, subst, ◌∙◌}
+use Rattle.segment_rules.specs.Rules.{choose, Choice, nobody}
 use Rattle.table.specs.Answers.{choice_as}
-use Rattle.table.specs.Parts.{Inside}
+use Rattle.table.specs.Places.{named}
+use Rattle.table.specs.Promise.{Carries, chosen}
 use Rattle.table.proofs.Choosing.{chooses, unmarked}
 use Rattle.table.proofs.commands.choose.Goals as goal
 
-pub set_mark-requires : goal.set_mark-requires
-set_mark-requires c = subst Inside (ap choice_as c.in-Names.is) c.first_due-c.ensures.0
+pub returns-in_err-k : goal.returns-in_err-k
+returns-in_err-k c = λ h. let t = c.args.table.now in
+    let e : choice_as c.from_residual.result ≡ nobody = search rules in
+    subst (λ (x : Choice). Carries choose t (chosen x) t) (sym e)
+    (chooses _ h _ _ _ _ (sym (ap named c.in_err-k.was) ∙ c.first_due.ensures h.held) refl refl (unmarked _ h))
 
-pub returns-in-Names : goal.returns-in-Names
-returns-in-Names c = λ h. chooses _ h _ _ _ _ (sym (ap choice_as c.in-Names.is) ∙ c.first_due-c.ensures.1 h.held) refl refl (c.set_mark.ensures h.held)
-
-pub returns-in-Nobody : goal.returns-in-Nobody
-returns-in-Nobody c = λ h. chooses _ h _ _ _ _ (c.first_due-c.ensures.1 h.held) (ap choice_as c.in-Nobody.is) refl (unmarked _ h)
+pub returns : goal.returns
+returns c = λ h. chooses _ h _ _ _ _ (sym (ap named c.in_ok-k.was) ∙ c.first_due.ensures h.held) refl refl (c.set_mark.ensures h.held)

@@ -9,4 +9,4 @@ pub returns-then-is_full_but : goal.returns-then-is_full_but
 returns-then-is_full_but c = λ h. foreign-5 _ h _ (sym c.is_malformed.ensures ∙ c.if-is_malformed.false) (sym c.is_full_but.ensures ∙ c.if-is_full_but.true)
 
 pub returns : goal.returns
-returns c = λ h. foreign-ok _ h _ _ _ (sym c.is_malformed.ensures ∙ c.if-is_malformed.false) c.trim-g.ensures (sym c.is_full_but.ensures ∙ c.if-is_full_but.false) (c.cast.ensures h.held)
+returns c = λ h. foreign-ok _ h _ _ _ (sym c.is_malformed.ensures ∙ c.if-is_malformed.false) c.trim.ensures (sym c.is_full_but.ensures ∙ c.if-is_full_but.false) (c.cast.ensures h.held)

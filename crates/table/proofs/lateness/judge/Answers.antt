@@ -1,10 +1,7 @@
-use Rattle.table.specs.Parts.{late-before, by-slack, over, under}
+use Rattle.table.specs.Parts.{by-slack, over, under}
 use native.Mathlib.Omega.{arith}
-use mathlib.Core.Path.{◌∙◌, sym, refl}
+use mathlib.Core.Path.{◌∙◌, sym}
 use Rattle.table.proofs.lateness.judge.Goals as goal
-
-pub returns-then-is_late : goal.returns-then-is_late
-returns-then-is_late c = λ h. late-before (sym c.is_late.ensures ∙ c.if-is_late.true) refl
 
 pub returns-then-slack-gt0 : goal.returns-then-slack-gt0
 returns-then-slack-gt0 c = λ h. by-slack (sym c.is_late.ensures ∙ c.if-is_late.false) _ c.slack-slack.ensures c.if-slack-gt0.true (c.set_slack.ensures h (omega (arith, c.slack-slack.ensures, h.slack)))

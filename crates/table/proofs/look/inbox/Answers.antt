@@ -1,12 +1,15 @@
-use mathlib.Core.Path.{sym}
+use Rattle.std.proofs.Common.{rules, ◌≡◌, sym, ◌∙◌}
+use Rattle.node.specs.Rules.{refused}
+use Rattle.table.specs.Answers.{found_as}
 use Rattle.table.proofs.Looked.{in-1, in-6, in_frame}
 use Rattle.table.proofs.look.inbox.Goals as goal
 
-pub returns-then-index-ge-PLACES : goal.returns-then-index-ge-PLACES
-returns-then-index-ge-PLACES c = sym (in-1 _ _ _ c.if-index-ge-PLACES.true)
+pub returns-in_err-k : goal.returns-in_err-k
+returns-in_err-k c = let e : found_as c.from_residual.result ≡ refused 1 = search rules in
+    e ∙ sym (in-1 _ _ _ c.in_err-k.ensures.1)
 
 pub returns-then-count_at-place : goal.returns-then-count_at-place
-returns-then-count_at-place c = sym (in-6 _ _ _ _ c.count_at.ensures c.if-index-ge-PLACES.false c.if-count_at-place.true)
+returns-then-count_at-place c = rw (← c.in_ok-k.ensures) (sym (in-6 _ _ _ _ c.count_at.ensures c.in_ok-k.k.inside c.if-count_at-place.true))
 
 pub returns : goal.returns
-returns c = sym (in_frame _ _ _ _ _ c.count_at.ensures c.if-index-ge-PLACES.false c.if-count_at-place.false c.frame_in-f.ensures)
+returns c = rw (← c.in_ok-k.ensures) (sym (in_frame _ _ _ _ _ c.count_at.ensures c.in_ok-k.k.inside c.if-count_at-place.false c.frame_in.ensures))

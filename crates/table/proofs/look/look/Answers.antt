@@ -1,10 +1,12 @@
-use mathlib.Core.Path.{sym, ap, ◌∙◌}
-use Rattle.node.specs.Rules.{accepted}
+use Rattle.std.proofs.Common.{rules, ◌≡◌, sym, ap, ◌∙◌}
+use Rattle.node.specs.Rules.{accepted, refused}
+use Rattle.table.specs.Answers.{look_as}
 use Rattle.table.proofs.Looked.{look-1, look-seen}
 use Rattle.table.proofs.look.look.Goals as goal
 
-pub returns-then-index-ge-PLACES : goal.returns-then-index-ge-PLACES
-returns-then-index-ge-PLACES c = sym (look-1 _ _ c.if-index-ge-PLACES.true)
+pub returns-in_err-k : goal.returns-in_err-k
+returns-in_err-k c = let e : look_as c.from_residual.result ≡ refused 1 = search rules in
+    e ∙ sym (look-1 _ _ c.in_err-k.ensures.1)
 
 pub returns : goal.returns
-returns c = ap accepted c.seen_at-s.ensures ∙ sym (look-seen _ _ c.if-index-ge-PLACES.false)
+returns c = rw (← c.in_ok-k.ensures) (ap accepted c.seen_at.ensures ∙ sym (look-seen _ _ c.in_ok-k.k.inside))

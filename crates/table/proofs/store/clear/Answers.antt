@@ -2,4 +2,4 @@ use Rattle.table.proofs.Rings.{clear-done}
 use Rattle.table.proofs.store.clear.Goals as goal
 
 pub returns : goal.returns
-returns c = λ h. clear-done _ _ h c.requires
+returns c = λ h. clear-done _ _ h c.args.k.inside

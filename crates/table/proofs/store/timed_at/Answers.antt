@@ -5,4 +5,4 @@ use Rattle.table.proofs.store.timed_at.Goals as goal
 
 pub returns : goal.returns
 unfolding node_at
-returns c = c.timed.ensures ∙ (λ i. timed_at (c.phase_in-p.ensures i) (c.reply_in.ensures i))
+returns c = c.timed.ensures ∙ (λ i. timed_at (c.phase_in.ensures i) (c.reply_in.ensures i))

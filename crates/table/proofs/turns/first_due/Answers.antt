@@ -1,37 +1,13 @@
-use mathlib.Core.Path.{ap, ◌∙◌}
-use native.Mathlib.Omega.{arith}
-use Rattle.segment_rules.specs.Rules.{after}
-use Rattle.table.proofs.Choosing.{found_after, found-round, found_none}
+use Rattle.std.proofs.Common.{rules, arith, ◌≡◌, ◌∙◌, ap, Some}
+use Rattle.std.specs.Prelude.{MatchOption}
+use Rattle.segment_rules.specs.Rules.{places, after}
+use Rattle.table.specs.Parts.{FirstIn}
+use Rattle.table.proofs.Choosing.{first-chosen}
 use Rattle.table.proofs.turns.first_due.Goals as goal
 
-pub returns-then-k-lt-PLACES : goal.returns-then-k-lt-PLACES
-returns-then-k-lt-PLACES c = (
-  omega (arith, c.if-k-lt-PLACES.true, c.after-next.ensures.0),
-  λ h.
-      let next = c.after-next.ensures in
-      let is = c.mark.ensures in
-      found_after _ _ (next.1 (omega (arith, is, h.mark)) ∙ ap after is) _ (c.first_between-k.ensures (omega (arith, next.0))) c.if-k-lt-PLACES.true,
-)
-
-pub first_between-j-requires : goal.first_between-j-requires
-first_between-j-requires c = omega (arith, c.after-next.ensures.0)
-
-pub returns-then-j-next : goal.returns-then-j-next
-returns-then-j-next c = (
-  omega (arith, c.if-j-next.true, c.after-next.ensures.0),
-  λ h.
-      let next = c.after-next.ensures in
-      let is = c.mark.ensures in
-      found-round _ _ (next.1 (omega (arith, is, h.mark)) ∙ ap after is) _ (c.first_between-k.ensures (omega (arith, next.0)))
-      _ c.if-k-lt-PLACES.false (c.first_between-j.ensures (omega arith)) (omega (arith, c.if-j-next.true)),
-)
-
 pub returns : goal.returns
-returns c = (
-  tt,
-  λ h.
-      let next = c.after-next.ensures in
-      let is = c.mark.ensures in
-      found_none _ _ (next.1 (omega (arith, is, h.mark)) ∙ ap after is) _ (c.first_between-k.ensures (omega (arith, next.0)))
-      _ c.if-k-lt-PLACES.false (c.first_between-j.ensures (omega arith)) (omega (arith, c.if-j-next.false)),
-)
+returns c = λ h.
+    let next = c.after-next.result.index in
+    let one : FirstIn c.args.t.now next places c.first_in.result = search rules in
+    let two : MatchOption c.first_in.result (FirstIn c.args.t.now 0 next c.or_else.result) (λ k. c.or_else.result ≡ Some k) = search rules in
+    first-chosen _ next (c.after-next.ensures (omega (arith, h.mark, c.mark.ensures)) ∙ ap after c.mark.ensures) _ _ one two
