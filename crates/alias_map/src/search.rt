@@ -1,8 +1,8 @@
 // The search for the first of the entries of which a test holds. It ends at its hit.
-ghost use Rattle.std.specs.Prelude.{◌<◌, ◌≤◌, IfSome};
+ghost use Rattle.std.specs.Prelude.{◌<◌, ◌≤◌, ◌+◌, IfSome};
 ghost use Rattle.std.specs.Option.{unwrap_or};
 ghost use Rattle.alias_map.specs.Rules.{room};
-ghost use Rattle.alias_map.specs.Parts.{Tests, Found};
+ghost use Rattle.alias_map.specs.Parts.{Tests, Found, Met};
 
 use crate::entry::{Entry, entry_in};
 use crate::layout::{ROW, WORDS};
@@ -15,6 +15,7 @@ pub(crate) fn find<F: Fn(Entry) -> bool>(map: &[u64; WORDS], n: usize, is: F) ->
     requires few { n ≤ room }
     ensures within { IfSome result (λ i. i < n) }
     ensures first { (p : _) → Tests F.Fn is p → Found p map.now n (unwrap_or result n) }
+    ensures compared { (p : _) → Tests F.Fn is p → Met p map.now n (unwrap_or result n + 1) }
 {
     let mut row = 0;
     while row < n {
