@@ -70,6 +70,13 @@ module _ (t : List ℕ) (n : ℕ) (c : Counted t n) where
         first-entry g p (k - 1) at (subst (Found p t n) (omega (arith, at)) m.first)
         ∙ (λ j. accepted (record { value = g (entry_at t (k - 1)); count = last j }))
 
+  -- the entry that is compared last, by its place
+  pub present-at : (g : Entry → ℕ) (p : Entry → Bool) (i : ℕ) → Met p t n (i + 1) → i < n
+      → look_up g p (entries_of t) ≡ accepted (record { value = g (entry_at t i); count = i + 1 })
+  present-at g p i m h =
+      let place : i + 1 - 1 ≡ i = omega arith in
+      present g p (i + 1) m (omega (arith, h)) ∙ (λ j. accepted (record { value = g (entry_at t (place j)); count = i + 1 }))
+
   -- REMOVING
 
   module _ (p : Entry → Bool) (i : ℕ) (f : Found p t n i) where

@@ -1,10 +1,9 @@
-use Rattle.std.proofs.Common.{rules, ◌≡◌, ◌+◌, ◌-◌, sym, ap, ◌∙◌, Some, None, Err, arith}
+use Rattle.std.proofs.Common.{rules, ◌≡◌, ◌+◌, sym, ap, ◌∙◌, Some, None, Err, arith}
 use Rattle.alias_map.specs.declared.answer.Refusal.TheVariants.{Absent}
 use Rattle.alias_map.specs.Answers.{alias_as}
 use Rattle.alias_map.specs.Rules.{accepted, has_id, alias_of}
-use Rattle.alias_map.specs.Words.{entry_at}
 use Rattle.alias_map.specs.declared.entry.Entry.{Entry}
-use Rattle.alias_map.proofs.Given.{absent, present}
+use Rattle.alias_map.proofs.Given.{absent, present-at}
 use Rattle.alias_map.proofs.by_id.alias_of.Goals as goal
 
 pub returns-in_err-i : goal.returns-in_err-i
@@ -20,8 +19,5 @@ unfolding alias_of
 returns c =
     let met = c.find.ensures.compared (has_id c.args.id) (λ w b h. search rules) in
     let some : c.find.result ≡ Some c.in_ok-i.i = search rules in
-    let i = c.in_ok-i.i in
-    let back : i ≡ i + 1 - 1 = omega arith in
-    ap (λ (e : Entry). accepted (record { value = e.alias.0; count = i + 1 })) c.entry_in-e.ensures
-    ∙ (λ j. accepted (record { value = (entry_at c.args.map.now (back j)).alias.0; count = i + 1 }))
-    ∙ sym (present _ _ c.len.ensures (λ e. e.alias.0) (has_id c.args.id) _ (rw some at met) (omega (arith, rw some at c.find.ensures.within)))
+    ap (λ (e : Entry). accepted (record { value = e.alias.0; count = c.in_ok-i.i + 1 })) c.entry_in-e.ensures
+    ∙ sym (present-at _ _ c.len.ensures (λ e. e.alias.0) (has_id c.args.id) _ (rw some at met) (rw some at c.find.ensures.within))
